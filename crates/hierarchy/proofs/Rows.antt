@@ -1,0 +1,187 @@
+-- Tables that a loop fills, row by row or member by member. Assumes nothing.
+use mathlib.Core.Path.{_≡_, refl, sym, ap, ap₂, _∙_, subst}
+use mathlib.Core.Bool.{Bool, true, false, not, _&&_, _||_, and-true, and-false, or-false, and-not-self}
+use mathlib.Core.Logic.{_⊎_, ⊎-elim, _↔_, _≢_, dite}
+use mathlib.Core.List.{List}
+use Prim.Native.Nat.{ℕ, zero, suc, _<_}
+use native.Mathlib.Decide.{ℕ-discrete}
+use lib.ListN.{set, length, length-set, replicate}
+use lib.Seq.{getD-set-same, getD-set-other}
+use Rattle.sets.specs.Sets.{bit, _∈_, _⊆_, same?, NoRole}
+use Rattle.sets.proofs.Bools.{and-left, and-right, and-both, false-no, not-so}
+use Rattle.sets.proofs.Digits.{bit-zero}
+use Rattle.sets.proofs.Laws.{same-eq, same-self}
+use Rattle.sets.proofs.Members.{Taken, taken-part, taken-cases}
+use Rattle.hierarchy.specs.Tables.{Tables, tables, row}
+use Rattle.hierarchy.specs.Words.{Derives, Chain}
+use Rattle.hierarchy.specs.Views.{Led, IsDown, IsUp, Marked, AreViews}
+use Rattle.hierarchy.proofs.Derive.{derives↔descends}
+
+-- a row of the blank table has no member
+pub blank-row : (n x : ℕ) → row (replicate n 0) x ≡ 0
+blank-row zero x = refl
+blank-row (suc n) zero = refl
+blank-row (suc n) (suc x) = blank-row n x
+
+pub row-set : (t : List ℕ) (x v y : ℕ) → x < length t → (P : ℕ → Type 0) → (y ≡ x → P v) → (y ≢ x → P (row t y)) → P (row (set t x v) y)
+row-set t x v y l P same other = dite (ℕ-discrete y x)
+    (λ e. subst P (sym (ap (λ (k : ℕ). row (set t x v) k) e ∙ getD-set-same t x v 0 l)) (same e))
+    (λ n. subst P (sym (getD-set-other t x y v 0 n)) (other n))
+
+-- ---- what x derives, from two closures
+
+-- one is {x}, mid what leads from it by A, all what leads from mid by I, and s the live ones of these
+pub derived-is : {live x one mid : ℕ} {i a : List ℕ} (all s : ℕ)
+    → x < 64 → x ∈ live
+    → ((y : ℕ) → bit one y ≡ same? x y)
+    → ((y : ℕ) → (y ∈ mid) ↔ Led a one y)
+    → ((y : ℕ) → (y ∈ all) ↔ Led i mid y)
+    → ((y : ℕ) → bit s y ≡ (bit all y && bit live y))
+    → (y : ℕ) → (y ∈ s) ↔ Derives (tables live i a) x y
+derived-is {live} {x} {one} {mid} {i} {a} all s l here h₁ h₂ h₃ h₄ y = (
+  λ e.
+      let q = h₃ y .0 (and-left (bit all y) (bit live y) (sym (h₄ y) ∙ e)) in
+      let p = h₂ (q .start) .0 (q .member) in
+      derives↔descends .1 (record {
+        from = here;
+        to = and-right (bit all y) (bit live y) (sym (h₄ y) ∙ e);
+        mid = q .start;
+        down-a = subst (λ (n : ℕ). Chain a n (q .start)) (same-eq x (p .start) (sym (h₁ (p .start)) ∙ p .member)) (p .chain);
+        down-i = q .chain;
+      }),
+  λ d.
+      let s = derives↔descends .0 d in
+      h₄ y ∙ and-both (bit all y) (bit live y)
+      (h₃ y .1 (record { start = s .mid; member = h₂ (s .mid) .1 (record { start = x; member = h₁ x ∙ same-self x l; chain = s .down-a }); chain = s .down-i }))
+      (s .to),
+)
+
+-- ---- a loop over the live roles that fills a row for each
+
+-- rows of roles not left to do satisfy P
+pub record Filled (P : ℕ → ℕ → Type 0) (live : ℕ) (t : List ℕ) (rest : ℕ) : Type 0 where
+  pub rows : length t ≡ 64
+  pub part : rest ⊆ live
+  pub settled : (x : ℕ) → bit rest x ≡ false → P x (row t x)
+
+pub filled-start : (P : ℕ → ℕ → Type 0) (live : ℕ) → ((x : ℕ) → bit live x ≡ false → P x 0) → Filled P live (replicate 64 0) live
+filled-start P live f = record { rows = refl; part = λ x e. e; settled = λ x e. subst (P x) (sym (blank-row 64 x)) (f x e) }
+
+pub filled-turn : {P : ℕ → ℕ → Type 0} {live rest x rest′ : ℕ} {t : List ℕ} (v : ℕ) → Taken rest x rest′ → Filled P live t rest → P x v → Filled P live (set t x v) rest′
+filled-turn {P} {x = x} {t = t} v turn inv h = record {
+  rows = length-set t x v ∙ inv .rows;
+  part = λ y e. inv .part y (taken-part turn y e);
+  settled = λ y e. row-set t x v y (subst (λ (n : ℕ). x < n) (sym (inv .rows)) (turn .lowest .role)) (P y)
+      (λ q. subst (λ (n : ℕ). P n v) (sym q) h)
+      (λ n. inv .settled y (⊎-elim (λ f. f) (λ q. absurd (n q)) (taken-cases turn y e)));
+}
+
+-- the rows of roles that aren't live are right while nothing is in them
+pub down-start : (live : ℕ) (i a : List ℕ) → Filled (λ x v. (y : ℕ) → (y ∈ v) ↔ Derives (tables live i a) x y) live (replicate 64 0) live
+down-start live i a = filled-start _ live (λ x e y. (λ m. absurd (false-no (bit-zero y) m), λ d. absurd (false-no e (d .from))))
+
+-- ---- a role goes into many rows
+
+-- the rows of roles not left to do have x
+pub record Marking (up : List ℕ) (s x : ℕ) (marked : List ℕ) (rest : ℕ) : Type 0 where
+  pub rows : length marked ≡ 64
+  pub part : rest ⊆ s
+  pub members : (y z : ℕ) → bit (row marked y) z ≡ (bit (row up y) z || ((bit s y && not (bit rest y)) && same? x z))
+
+pub marking-start : (up : List ℕ) (s x : ℕ) → length up ≡ 64 → Marking up s x up s
+marking-start up s x l = record {
+  rows = l;
+  part = λ y e. e;
+  members = λ y z. sym (ap (λ (p : Bool). bit (row up y) z || (p && same? x z)) (and-not-self (bit s y)) ∙ or-false (bit (row up y) z));
+}
+
+pub marking-turn : {up marked : List ℕ} {s x rest y rest′ : ℕ} (v : ℕ) → Taken rest y rest′ → Marking up s x marked rest
+    → ((z : ℕ) → bit v z ≡ (bit (row marked y) z || same? x z)) → Marking up s x (set marked y v) rest′
+marking-turn {up} {marked} {s} {x} {rest} {y} {rest′} v turn inv h = record {
+  rows = length-set marked y v ∙ inv .rows;
+  part = λ w e. inv .part w (taken-part turn w e);
+  members = λ w z. row-set marked y v w (subst (λ (n : ℕ). y < n) (sym (inv .rows)) (turn .lowest .role))
+      (λ r. bit r z ≡ (bit (row up w) z || ((bit s w && not (bit rest′ w)) && same? x z)))
+      (λ e. subst (λ (k : ℕ). bit v z ≡ (bit (row up k) z || ((bit s k && not (bit rest′ k)) && same? x z))) (sym e) (here z))
+      (λ n. inv .members w z ∙ ap (λ (p : Bool). bit (row up w) z || ((bit s w && not p) && same? x z)) (sym (left w n)));
+}
+  where
+    gone : bit rest′ y ≡ false
+    gone = turn .rest-is y ∙ ap (λ (p : Bool). bit rest y && not p) (same-self y (turn .lowest .role)) ∙ and-false (bit rest y)
+
+    left : (w : ℕ) → w ≢ y → bit rest′ w ≡ bit rest w
+    left w n = turn .rest-is w ∙ ap (λ (p : Bool). bit rest w && not p) (not-so (same? y w) (λ e. n (same-eq y w e))) ∙ and-true (bit rest w)
+
+    absorb : (u p : Bool) → ((u || (false && p)) || p) ≡ (u || (true && p))
+    absorb true p = refl
+    absorb false p = refl
+
+    here : (z : ℕ) → bit v z ≡ (bit (row up y) z || ((bit s y && not (bit rest′ y)) && same? x z))
+    here z =
+        h z
+        ∙ ap (λ (q : Bool). q || same? x z) (inv .members y z)
+        ∙ ap (λ (q : Bool). (bit (row up y) z || (q && same? x z)) || same? x z) (ap₂ (λ (p q : Bool). p && not q) (inv .part y (turn .lowest .member)) (turn .lowest .member))
+        ∙ absorb (bit (row up y) z) (same? x z)
+        ∙ sym (ap (λ (q : Bool). bit (row up y) z || (q && same? x z)) (ap₂ (λ (p q : Bool). p && not q) (inv .part y (turn .lowest .member)) gone))
+
+pub marking-end : {up marked : List ℕ} {s x rest : ℕ} → NoRole rest → Marking up s x marked rest → Marked up s x marked
+marking-end {up} {marked} {s} {x} empty inv = record {
+  rows = inv .rows;
+  members = λ y z. inv .members y z ∙ ap (λ (p : Bool). bit (row up y) z || (p && same? x z)) (ap (λ (q : Bool). bit s y && not q) (empty .none y) ∙ and-true (bit s y));
+}
+
+-- ---- a table turned round
+
+pub record Turning (live : ℕ) (down up : List ℕ) (rest : ℕ) : Type 0 where
+  pub rows : length up ≡ 64
+  pub part : rest ⊆ live
+  pub members : (x y : ℕ) → bit (row up y) x ≡ ((bit live x && not (bit rest x)) && bit (row down x) y)
+
+pub turning-start : (live : ℕ) (down : List ℕ) → Turning live down (replicate 64 0) live
+turning-start live down = record {
+  rows = refl;
+  part = λ x e. e;
+  members = λ x y. ap (λ (r : ℕ). bit r x) (blank-row 64 y) ∙ bit-zero x ∙ sym (ap (λ (p : Bool). p && bit (row down x) y) (and-not-self (bit live x)));
+}
+
+pub turning-turn : {live rest x rest′ : ℕ} {down up up′ : List ℕ} → Taken rest x rest′ → Turning live down up rest
+    → Marked up (row down x) x up′ → Turning live down up′ rest′
+turning-turn {live} {rest} {x} {rest′} {down} {up} {up′} turn inv mark = record {
+  rows = mark .rows;
+  part = λ y e. inv .part y (taken-part turn y e);
+  members = λ z y. mark .members y z ∙ ap (λ (p : Bool). p || (bit (row down x) y && same? x z)) (inv .members z y) ∙ go z y (same? x z) refl;
+}
+  where
+    drop : (l r d w : Bool) → (((l && not r) && d) || (w && false)) ≡ ((l && not (r && true)) && d)
+    drop l r d w = ap (λ (p : Bool). ((l && not r) && d) || p) (and-false w) ∙ or-false ((l && not r) && d) ∙ ap (λ (p : Bool). (l && not p) && d) (sym (and-true r))
+
+    go : (z y : ℕ) (p : Bool) → same? x z ≡ p
+        → (((bit live z && not (bit rest z)) && bit (row down z) y) || (bit (row down x) y && p)) ≡ ((bit live z && not (bit rest′ z)) && bit (row down z) y)
+    go z y false e =
+        drop (bit live z) (bit rest z) (bit (row down z) y) (bit (row down x) y)
+        ∙ ap (λ (p : Bool). (bit live z && not p) && bit (row down z) y) (sym (turn .rest-is z ∙ ap (λ (q : Bool). bit rest z && not q) e))
+    go z y true e =
+        let z-is : z ≡ x = same-eq x z e in
+        let in-rest : z ∈ rest = subst (λ (n : ℕ). n ∈ rest) (sym z-is) (turn .lowest .member) in
+        ap (λ (p : Bool). ((bit live z && not p) && bit (row down z) y) || (bit (row down x) y && true)) in-rest
+        ∙ ap (λ (p : Bool). (p && bit (row down z) y) || (bit (row down x) y && true)) (and-false (bit live z))
+        ∙ and-true (bit (row down x) y)
+        ∙ ap (λ (k : ℕ). bit (row down k) y) (sym z-is)
+        ∙ sym (ap (λ (p : Bool). (p && not (bit rest′ z)) && bit (row down z) y) (inv .part z in-rest)
+        ∙ ap (λ (p : Bool). not p && bit (row down z) y) (turn .rest-is z ∙ ap (λ (q : Bool). bit rest z && not q) e ∙ and-false (bit rest z)))
+
+pub turning-end : {live rest : ℕ} {down up : List ℕ} → NoRole rest → Turning live down up rest → IsUp live down up
+turning-end {live} {rest} {down} {up} empty inv x y = (
+  λ e. let p = sym (members) ∙ e in (and-left (bit live x) (bit (row down x) y) p, and-right (bit live x) (bit (row down x) y) p),
+  λ m. members ∙ and-both (bit live x) (bit (row down x) y) (m .0) (m .1),
+)
+  where
+    members : bit (row up y) x ≡ (bit live x && bit (row down x) y)
+    members = inv .members x y ∙ ap (λ (p : Bool). p && bit (row down x) y) (ap (λ (q : Bool). bit live x && not q) (empty .none x) ∙ and-true (bit live x))
+
+-- both views, from the two tables
+pub views-are : {t : Tables} {down up : List ℕ} → IsDown t down → IsUp (t .live) down up → AreViews t down up
+views-are d u = record {
+  down-is = d;
+  up-is = λ x y. (λ e. d x y .0 (u x y .0 e .1), λ w. u x y .1 (w .from, d x y .1 w));
+}

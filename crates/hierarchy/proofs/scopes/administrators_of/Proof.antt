@@ -1,0 +1,81 @@
+use borrow.Author.Needs.{needs}
+use mathlib.Core.Logic.{⊎-elim}
+use lib.Count.{ones}
+use Rattle.sets.proofs.Members.{Taken, picked, nobody, taken-less}
+use Rattle.hierarchy.specs.Views.{ScopeBy}
+use Rattle.hierarchy.proofs.Sift.{Sifted, sift-start, sift-in, sift-out, sift-end}
+use Rattle.hierarchy.proofs.Managing.{admins-found}
+use Rattle.sets.proofs.Bools.{false-no}
+use Rattle.hierarchy.proofs.scopes.administrators_of.Statement.{statement}
+use Rattle.hierarchy.proofs.scopes.administrators_of.Tie as tie
+
+abbrev Inv-loop : tie.InvT-loop
+Inv-loop down up r found₀ rest₀ found rest = Sifted (λ a. ScopeBy down up a r) rest₀ found rest
+
+abbrev μ-loop : tie.MeasureT-loop
+μ-loop down up r found₀ rest₀ found rest = ones rest
+
+mul-without : tie.Need-mul-without Inv-loop μ-loop
+mul-without c = search needs
+
+element-copy-out-without : tie.Need-element-copy-out-without Inv-loop μ-loop
+element-copy-out-without c = search needs
+
+without-requires : tie.Need-without-requires Inv-loop μ-loop
+without-requires c κs = search needs
+
+loop-holds : tie.Need-loop-holds Inv-loop μ-loop
+loop-holds c = sift-start _ _
+
+lowest-requires : tie.Need-lowest-requires Inv-loop μ-loop
+lowest-requires c κs = search needs
+
+enum-known-a : tie.Need-enum-known-a Inv-loop μ-loop
+enum-known-a c = search needs
+
+enum-told : tie.Need-enum-told Inv-loop μ-loop
+enum-told c = search needs
+
+returns : tie.Need-returns Inv-loop μ-loop
+returns c = admins-found (c .before .before .before .before .without .result) _ (c .before .before .before .before .before .before .pre) (c .before .before .before .before .without .ensures) (sift-end (nobody (c .enum-told .given .1) (c .before .before .lowest .ensures)) (c .before .before .before .loop .inv))
+
+in-scope-requires : tie.Need-in-scope-requires Inv-loop μ-loop
+in-scope-requires c κs = (picked (c .before .a .given .1) (c .before .before .before .lowest .ensures) .role, c .before .before .before .before .before .before .before .pre)
+
+with-requires : tie.Need-with-requires Inv-loop μ-loop
+with-requires c κs = search needs
+
+without-requires-2 : tie.Need-without-requires-2 Inv-loop μ-loop
+without-requires-2 c κs = search needs
+
+taken : (c : tie.After-without2 Inv-loop μ-loop) → Taken (c .before .before .before .before .before .before .before .loop .rest) (c .before .before .before .before .a .given .0 .0) (c .without2 .result)
+taken c = record { lowest = picked (c .before .before .before .before .a .given .1) (c .before .before .before .before .before .before .lowest .ensures); rest-is = c .without2 .ensures }
+
+loop-less : tie.Need-loop-less Inv-loop μ-loop
+loop-less c = taken-less (taken c)
+
+loop-again : tie.Need-loop-again Inv-loop μ-loop
+loop-again c = ⊎-elim
+    (λ w. sift-in (taken c) (c .before .before .before .before .before .before .before .loop .inv) (w .1 .result) (c .before .before .in-scope .ensures .0 (w .0 .taken)) (w .1 .ensures) (w .2))
+    (λ w. sift-out (taken c) (c .before .before .before .before .before .before .before .loop .inv) (λ s. false-no (w .0 .left) (c .before .before .in-scope .ensures .1 s)) (w .1))
+    (c .before .if1 .came)
+
+pub administrators-of-spec : {M : Type 1} → statement M
+administrators-of-spec =
+    tie.close
+    (tie.spec
+    Inv-loop
+    μ-loop
+    mul-without
+    element-copy-out-without
+    without-requires
+    loop-holds
+    lowest-requires
+    enum-known-a
+    enum-told
+    returns
+    in-scope-requires
+    with-requires
+    without-requires-2
+    loop-less
+    loop-again)

@@ -1,0 +1,67 @@
+use borrow.Author.Needs.{needs}
+use native.Mathlib.Omega.{arith}
+use lib.Count.{ones}
+use Rattle.sets.proofs.Members.{Taken, picked, nobody, taken-less}
+use Rattle.hierarchy.proofs.Managing.{Managing-so-far, managed-start, managed-turn, managed-end, unmanaged}
+use Rattle.hierarchy.proofs.scopes.all_managed.Statement.{statement}
+use Rattle.hierarchy.proofs.scopes.all_managed.Tie as tie
+
+abbrev Inv-loop : tie.InvT-loop
+Inv-loop live down up rest₀ rest = Managing-so-far live down up rest
+
+abbrev μ-loop : tie.MeasureT-loop
+μ-loop live down up rest₀ rest = ones rest
+
+without-requires : tie.Need-without-requires Inv-loop μ-loop
+without-requires c κs = search needs
+
+loop-holds : tie.Need-loop-holds Inv-loop μ-loop
+loop-holds c = managed-start (c .without .result) (c .without .ensures)
+
+lowest-requires : tie.Need-lowest-requires Inv-loop μ-loop
+lowest-requires c κs = search needs
+
+enum-known-r : tie.Need-enum-known-r Inv-loop μ-loop
+enum-known-r c = search needs
+
+enum-told : tie.Need-enum-told Inv-loop μ-loop
+enum-told c = search needs
+
+returns : tie.Need-returns Inv-loop μ-loop
+returns c = managed-end (nobody (c .enum-told .given .1) (c .before .before .lowest .ensures)) (c .before .before .before .loop .inv)
+
+administrators-of-requires : tie.Need-administrators-of-requires Inv-loop μ-loop
+administrators-of-requires c κs = picked (c .before .r .given .1) (c .before .before .before .lowest .ensures) .role
+
+returns-2 : tie.Need-returns-2 Inv-loop μ-loop
+returns-2 c = unmanaged (c .before .administrators-of .result) (picked (c .before .before .before .r .given .1) (c .before .before .before .before .before .lowest .ensures) .member) (c .before .before .before .before .before .before .loop .inv) (c .before .administrators-of .ensures) (c .if1 .taken)
+
+without-requires-2 : tie.Need-without-requires-2 Inv-loop μ-loop
+without-requires-2 c κs = search needs
+
+taken : (c : tie.After-without2 Inv-loop μ-loop) → Taken (c .before .before .before .before .before .before .before .loop .rest) (c .before .before .before .before .r .given .0 .0) (c .without2 .result)
+taken c = record { lowest = picked (c .before .before .before .before .r .given .1) (c .before .before .before .before .before .before .lowest .ensures); rest-is = c .without2 .ensures }
+
+loop-less : tie.Need-loop-less Inv-loop μ-loop
+loop-less c = taken-less (taken c)
+
+loop-again : tie.Need-loop-again Inv-loop μ-loop
+loop-again c = managed-turn (c .before .before .administrators-of .result) (omega (arith, c .before .before .administrators-of .ok)) (taken c) (c .before .before .before .before .before .before .before .loop .inv) (c .before .before .administrators-of .ensures) (c .before .if1 .left)
+
+pub all-managed-spec : {M : Type 1} → statement M
+all-managed-spec =
+    tie.close
+    (tie.spec
+    Inv-loop
+    μ-loop
+    without-requires
+    loop-holds
+    lowest-requires
+    enum-known-r
+    enum-told
+    returns
+    administrators-of-requires
+    returns-2
+    without-requires-2
+    loop-less
+    loop-again)

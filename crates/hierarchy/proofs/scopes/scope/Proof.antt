@@ -1,0 +1,23 @@
+use mathlib.Core.Path.{_≡_}
+use lib.ListN.{length}
+use Rattle.sets.proofs.Bools.{false-no}
+use Rattle.sets.proofs.Digits.{bit-zero}
+use Rattle.hierarchy.proofs.Managing.{past-row}
+use borrow.Author.Needs.{needs}
+use Rattle.hierarchy.proofs.scopes.scope.Statement.{statement}
+use Rattle.hierarchy.proofs.scopes.scope.Tie as tie
+
+scope-of-requires : tie.Need-scope-of-requires
+scope-of-requires c κs = search needs
+
+returns : tie.Need-returns
+returns c = search needs
+
+returns-2 : tie.Need-returns-2
+returns-2 c = λ r. (λ e. absurd (false-no (bit-zero r) e), λ s. absurd (past-row (c .before .args .t1 .down) (c .before .args .a) r rows (c .if1 .left) (s .derives)))
+  where
+    rows : length (c .before .args .t1 .down) ≡ 64
+    rows = search needs
+
+pub scope-spec : {M : Type 1} → statement M
+scope-spec = tie.close (tie.spec scope-of-requires returns returns-2)

@@ -1,0 +1,56 @@
+-- Document 01, part "Roles, edges, paths": which roles live, the two tables of edges, the kinds, and how kinds join.
+use mathlib.Core.Path.{_≡_}
+use mathlib.Core.Bool.{Bool, true, false}
+use mathlib.Core.List.{List, [], _∷_}
+use Prim.Native.Nat.{ℕ, _^_, _<_}
+use lib.ListN.{getD, length}
+use Rattle.sets.specs.Sets.{bit, _∈_}
+
+-- Row x of the I table is the set of the juniors that x has by I, row x of the A table those by A; an IA edge is in both.
+-- The mathematics stands on this record alone, whatever a board of the code holds besides.
+pub record Tables : Type 0 where
+  pub live : ℕ
+  pub i : List ℕ
+  pub a : List ℕ
+
+abbrev pub tables : ℕ → List ℕ → List ℕ → Tables
+tables live i a = record { live = live; i = i; a = a }
+
+abbrev pub row : List ℕ → ℕ → ℕ
+row t x = getD t x 0
+
+abbrev pub Live : Tables → ℕ → Type 0
+Live t x = x ∈ t .live
+
+-- Its range of role numbers: 64 rows, and no set has a member above 63. The code's types say so of every board.
+pub record Shaped (t : Tables) : Type 0 where
+  pub live-fits : t .live < 2 ^ 64
+  pub i-rows : length (t .i) ≡ 64
+  pub a-rows : length (t .a) ≡ 64
+  pub i-fits : (x : ℕ) → row (t .i) x < 2 ^ 64
+  pub a-fits : (x : ℕ) → row (t .a) x < 2 ^ 64
+
+-- Its numbers for kinds, from whether a pair is in the I table and whether it is in the A table: 1 = I, 2 = A, 3 = IA, 0 = no edge
+abbrev pub kindOf : Bool → Bool → ℕ
+kindOf false false = 0
+kindOf true false = 1
+kindOf false true = 2
+kindOf true true = 3
+
+-- the kind of the pair of senior x and junior y
+unfoldable pub kind : Tables → ℕ → ℕ → ℕ
+kind t x y = kindOf (bit (row (t .i) x) y) (bit (row (t .a) x) y)
+
+-- Its table of how two steps join, the first picking the row and the second the place in it; 4 = conditioned, with row and column 0
+unfoldable pub joins : List (List ℕ)
+joins =
+    (0 ∷ 0 ∷ 0 ∷ 0 ∷ 0 ∷ [])
+    ∷ (0 ∷ 1 ∷ 0 ∷ 1 ∷ 0 ∷ [])
+    ∷ (0 ∷ 4 ∷ 2 ∷ 2 ∷ 4 ∷ [])
+    ∷ (0 ∷ 1 ∷ 2 ∷ 3 ∷ 4 ∷ [])
+    ∷ (0 ∷ 4 ∷ 0 ∷ 4 ∷ 0 ∷ [])
+    ∷ []
+
+-- past the table there is no kind
+unfoldable pub join : ℕ → ℕ → ℕ
+join j k = getD (getD joins j []) k 0

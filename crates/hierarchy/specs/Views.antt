@@ -1,0 +1,85 @@
+-- The two tables that are worked out once a board and handed on: row x of `down` is the set of what x derives, row y of `up` the
+-- set of what derives y. The words of scope again, read off such tables; `Rattle.hierarchy.proofs.ViewLaws` says that they are the same.
+use mathlib.Core.Path.{_≡_}
+use mathlib.Core.Logic.{_≢_, _⊎_, _↔_}
+use mathlib.Core.List.{List}
+use Prim.Native.Nat.{ℕ, suc, _≤_, _<_}
+use mathlib.Core.Bool.{_&&_, _||_}
+use lib.ListN.{length}
+use Rattle.sets.specs.Sets.{bit, same?, _∈_}
+use Rattle.sets.specs.declared.Pick.{Pick}
+use Rattle.sets.specs.declared.Pick.the-variants.{Role, Nobody}
+use Rattle.hierarchy.specs.declared.scopes.Climbed.{Climbed}
+use Rattle.hierarchy.specs.declared.scopes.Climbed.the-variants.{Steps, Stopped}
+use Rattle.hierarchy.specs.Tables.{Tables, row}
+use Rattle.hierarchy.specs.Words.{Derives, Chain}
+
+-- y is led to, through one table alone, from a role of s
+pub record Led (rows : List ℕ) (s y : ℕ) : Type 0 where
+  pub start : ℕ
+  pub member : start ∈ s
+  pub chain : Chain rows start y
+
+-- y is a junior, by an edge of any kind, of a role of s
+pub record JuniorOf (i a : List ℕ) (s y : ℕ) : Type 0 where
+  pub senior : ℕ
+  pub member : senior ∈ s
+  pub edge : (y ∈ row i senior) ⊎ (y ∈ row a senior)
+
+-- each row of down is what its role derives
+abbrev pub IsDown : Tables → List ℕ → Type 0
+IsDown t down = (x y : ℕ) → (y ∈ row down x) ↔ Derives t x y
+
+-- up is the part of down that starts at live roles, turned round
+abbrev pub IsUp : ℕ → List ℕ → List ℕ → Type 0
+IsUp live down up = (x y : ℕ) → (x ∈ row up y) ↔ ((x ∈ live) × (y ∈ row down x))
+
+-- x has gone into the row of each role of s
+pub record Marked (up : List ℕ) (s x : ℕ) (marked : List ℕ) : Type 0 where
+  pub rows : length marked ≡ 64
+  pub members : (y z : ℕ) → bit (row marked y) z ≡ (bit (row up y) z || (bit s y && same? x z))
+
+-- down and up are the views of t
+pub record AreViews (t : Tables) (down up : List ℕ) : Type 0 where
+  pub down-is : IsDown t down
+  pub up-is : (x y : ℕ) → (x ∈ row up y) ↔ Derives t x y
+
+-- r is in the scope of a
+pub record ScopeBy (down up : List ℕ) (a r : ℕ) : Type 0 where
+  pub derives : r ∈ row down a
+  pub derived : a ∈ row up r
+  pub rivals : (x : ℕ) → x ∈ row up r → (x ∈ row up a) ⊎ (x ∈ row down a)
+
+-- a is an administrator of r
+pub record AdminBy (down up : List ℕ) (a r : ℕ) : Type 0 where
+  pub scope : ScopeBy down up a r
+  pub strict : a ≢ r
+
+-- m is the line manager of r
+pub record ManagerBy (down up : List ℕ) (m r : ℕ) : Type 0 where
+  pub admin : AdminBy down up m r
+  pub lowest : (a : ℕ) → AdminBy down up a r → a ≢ m → a ∈ row up m
+
+-- m is the administrator, of those given, that all others derive
+pub record Nearest (up : List ℕ) (administrators m : ℕ) : Type 0 where
+  pub member : m ∈ administrators
+  pub lowest : (a : ℕ) → a ∈ administrators → a ≢ m → a ∈ row up m
+
+-- each role of live, but role 0, has an administrator
+abbrev pub ManagedBy : ℕ → List ℕ → List ℕ → Type 0
+ManagedBy live down up = (r : ℕ) → r ∈ live → r ≢ 0 → (a : ℕ) × AdminBy down up a r
+
+-- the line manager as an answer. Views of tables without loops have one at most; of two, the lower number is given.
+abbrev pub Managing : List ℕ → List ℕ → ℕ → Pick → Type 0
+Managing down up r (Role m) = ManagerBy down up m r × ((n : ℕ) → ManagerBy down up n r → m ≤ n)
+Managing down up r Nobody = (n : ℕ) → ManagerBy down up n r → ⊥
+
+-- from r up to role 0 by these answers, in n steps
+pub data ClimbBy (down up : List ℕ) : ℕ → ℕ → Type 0 where
+  arrived : ClimbBy down up 0 0
+  further : {r m n : ℕ} → r ≢ 0 → Managing down up r (Role m) → ClimbBy down up m n → ClimbBy down up r (suc n)
+
+-- the steps as an answer: at most 63, or stopped on the way, at a role that is not 0 and has no line manager, or after 64 of them
+abbrev pub Climbing : List ℕ → List ℕ → ℕ → Climbed → Type 0
+Climbing down up r (Steps n) = (n < 64) × ClimbBy down up r n
+Climbing down up r Stopped = (n : ℕ) → ClimbBy down up r n → 64 ≤ n

@@ -1,0 +1,169 @@
+// Scopes, administrators and line managers, read off the views of a board.
+ghost use mathlib.Core.Path.{_≡_};
+ghost use mathlib.Core.Bool.{true};
+ghost use mathlib.Core.Logic.{_↔_};
+ghost use Prim.Native.Nat.{ℕ, _<_};
+ghost use Rattle.sets.specs.Sets.{_∈_};
+ghost use Rattle.hierarchy.specs.Views.{ScopeBy, AdminBy, ManagedBy, Nearest, Managing, Climbing};
+use crate::views::Views;
+use sets::Pick;
+use sets::has;
+use sets::lowest;
+use sets::union;
+use sets::with;
+use sets::within;
+use sets::without;
+
+// How far a climb by line managers came: the steps to role 0, or stopped on the way.
+pub enum Climbed {
+    Steps(usize),
+    Stopped,
+}
+
+// Whether r is in the scope of a: a derives r, and whatever derives r is above or below a.
+fn in_scope<'v>(down: &'v [u64; 64], up: &'v [u64; 64], a: usize, r: usize) -> bool
+    requires { ⌜ (a < 64) × (r < 64) ⌝ }
+    ensures { λ y. ⌜ (y ≡ true) ↔ ScopeBy (now (down .entry)) (now (up .entry)) a r ⌝ }
+{
+    if !has(down[a], r) {
+        return false;
+    }
+    if !has(up[r], a) {
+        return false;
+    }
+    within(up[r], union(up[a], down[a]))
+}
+
+// The scope of a.
+fn scope_of<'v>(down: &'v [u64; 64], up: &'v [u64; 64], a: usize) -> u64
+    requires { ⌜ a < 64 ⌝ }
+    ensures { λ y. ⌜ ((r : ℕ) → (r ∈ y) ↔ ScopeBy (now (down .entry)) (now (up .entry)) a r) ⌝ }
+{
+    let mut found: u64 = 0;
+    let mut rest = down[a];
+    loop {
+        let Pick::Role(r) = lowest(rest) else {
+            return found;
+        };
+        if in_scope(down, up, a, r) {
+            found = with(found, r);
+        }
+        rest = without(rest, r);
+    }
+}
+
+// The administrators of r.
+fn administrators_of<'v>(down: &'v [u64; 64], up: &'v [u64; 64], r: usize) -> u64
+    requires { ⌜ r < 64 ⌝ }
+    ensures { λ y. ⌜ ((a : ℕ) → (a ∈ y) ↔ AdminBy (now (down .entry)) (now (up .entry)) a r) ⌝ }
+{
+    let mut found: u64 = 0;
+    let mut rest = without(up[r], r);
+    loop {
+        let Pick::Role(a) = lowest(rest) else {
+            return found;
+        };
+        if in_scope(down, up, a, r) {
+            found = with(found, a);
+        }
+        rest = without(rest, a);
+    }
+}
+
+// Those of the administrators that all others derive: one at most, where there is no loop.
+fn nearest(up: &[u64; 64], administrators: u64) -> u64
+    ensures { λ y. ⌜ ((m : ℕ) → (m ∈ y) ↔ Nearest (now (up .entry)) administrators m) ⌝ }
+{
+    let mut found: u64 = 0;
+    let mut rest = administrators;
+    loop {
+        let Pick::Role(m) = lowest(rest) else {
+            return found;
+        };
+        if within(administrators, with(up[m], m)) {
+            found = with(found, m);
+        }
+        rest = without(rest, m);
+    }
+}
+
+// The line manager of r.
+fn manager_of<'v>(down: &'v [u64; 64], up: &'v [u64; 64], r: usize) -> Pick
+    requires { ⌜ r < 64 ⌝ }
+    ensures { λ y. ⌜ Managing (now (down .entry)) (now (up .entry)) r y ⌝ }
+{
+    let administrators = administrators_of(down, up, r);
+    lowest(nearest(up, administrators))
+}
+
+// Whether each role of live, but role 0, has an administrator.
+fn all_managed<'v>(live: u64, down: &'v [u64; 64], up: &'v [u64; 64]) -> bool
+    ensures { λ y. ⌜ (y ≡ true) ↔ ManagedBy live (now (down .entry)) (now (up .entry)) ⌝ }
+{
+    let mut rest = without(live, 0);
+    loop {
+        let Pick::Role(r) = lowest(rest) else {
+            return true;
+        };
+        if administrators_of(down, up, r) == 0 {
+            return false;
+        }
+        rest = without(rest, r);
+    }
+}
+
+// The scope of a, as a set.
+pub fn scope(v: Views, a: usize) -> u64
+    ensures { λ y. ⌜ ((r : ℕ) → (r ∈ y) ↔ ScopeBy (v .down) (v .up) a r) ⌝ }
+{
+    if a < 64 {
+        return scope_of(&v.down, &v.up, a);
+    }
+    0
+}
+
+// The administrators of r, as a set.
+pub fn administrators(v: Views, r: usize) -> u64
+    ensures { λ y. ⌜ ((a : ℕ) → (a ∈ y) ↔ AdminBy (v .down) (v .up) a r) ⌝ }
+{
+    if r < 64 {
+        return administrators_of(&v.down, &v.up, r);
+    }
+    0
+}
+
+// The line manager of r, or nobody.
+pub fn manager(v: Views, r: usize) -> Pick
+    ensures { λ y. ⌜ Managing (v .down) (v .up) r y ⌝ }
+{
+    if r < 64 {
+        return manager_of(&v.down, &v.up, r);
+    }
+    Pick::Nobody
+}
+
+// Whether each role of live, but role 0, has an administrator.
+pub fn managed(live: u64, v: Views) -> bool
+    ensures { λ y. ⌜ (y ≡ true) ↔ ManagedBy live (v .down) (v .up) ⌝ }
+{
+    all_managed(live, &v.down, &v.up)
+}
+
+// The steps from r to role 0 by line managers. Sound tables need fewer than 64; where there is no line manager the climb stops.
+pub fn steps(v: Views, r: usize) -> Climbed
+    ensures { λ y. ⌜ Climbing (v .down) (v .up) r y ⌝ }
+{
+    let mut x = r;
+    let mut n: usize = 0;
+    while n < 64 {
+        if x == 0 {
+            return Climbed::Steps(n);
+        }
+        let Pick::Role(m) = manager(v, x) else {
+            return Climbed::Stopped;
+        };
+        x = m;
+        n += 1;
+    }
+    Climbed::Stopped
+}

@@ -1,0 +1,201 @@
+-- The laws of sets of roles: what callers cite. Assumes nothing.
+use mathlib.Core.Path.{_≡_, refl, sym, ap, _∙_}
+use mathlib.Core.Bool.{Bool, true, false, not, _&&_, _||_, and-true, and-false}
+use mathlib.Core.Logic.{_⊎_, ⊎-elim, _↔_}
+use Prim.Native.Nat.{ℕ, zero, suc, _-_, _*_, _/_, _%_, _^_, _≤_, _<_, zero-le, suc-le-suc}
+use native.Mathlib.Nat.{mod-lt, mod-eq-of-lt, one-mul, le-refl, le-antisymm}
+use native.Mathlib.Omega.{arith}
+use lib.Dec.{eqb, ltb, lit<}
+use lib.Arith.{bin-ind}
+use lib.Pow.{pow-lt}
+use lib.Bits.{and-mask, bitAnd, bitOr, or-lt}
+use lib.Count.{ones, ones-step, trailingZeros, under}
+use borrow.Author.Tests.{lt-ltb, le-ltb, eqb-true, eq-eqb}
+use Rattle.sets.specs.Sets.{bit, _∈_, _⊆_, part?, same?, num, setOf, Lowest}
+use Rattle.sets.specs.declared.Pick.{Pick}
+use Rattle.sets.specs.declared.Pick.the-variants.{Role, Nobody}
+use Rattle.sets.proofs.Bools.{true-or-false, or-left, and-left, and-both, lt-or-ge, false-no, not-so, iff-same}
+use Rattle.sets.proofs.Digits.{two-pos, bit-low, bit-high, bit-zero, bit-out, bit-or, bit-and, bit-not, bit-pow, low-num, half-lt, digits-fit, bit-digits}
+
+-- ---- members are roles; sets with the same members are equal
+
+pub bit-lt : (k : ℕ) {s x : ℕ} → s < 2 ^ k → x ∈ s → x < k
+bit-lt k {s} {x} h e = ⊎-elim (λ l. l) (λ g. absurd (false-no (bit-out k s x h g) e)) (lt-or-ge x k)
+
+pub ext : (k s t : ℕ) → s < 2 ^ k → t < 2 ^ k → ((x : ℕ) → x < k → bit s x ≡ bit t x) → s ≡ t
+ext zero s t hs ht f = omega arith
+ext (suc k) s t hs ht f =
+    let up : s / 2 ≡ t / 2 = ext k (s / 2) (t / 2) (half-lt k s hs) (half-lt k t ht) (λ x l. sym (bit-high s x) ∙ f (suc x) (suc-le-suc l) ∙ bit-high t x) in
+    let low : s % 2 ≡ t % 2 = low-num s ∙ ap num (f 0 (suc-le-suc zero-le)) ∙ sym (low-num t) in
+    omega arith
+
+-- no member: the empty set
+pub no-members : (s : ℕ) → s < 2 ^ 64 → ((x : ℕ) → bit s x ≡ false) → s ≡ 0
+no-members s h e = ext 64 s 0 h (lit< tt) (λ x l. e x ∙ sym (bit-zero x))
+
+-- ---- x is the role r
+
+pub same-is : (r x : ℕ) → r < 64 → same? r x ≡ eqb x r
+unfolding same?
+same-is r x l = ap (λ (p : Bool). eqb x r && p) (lt-ltb r 64 l) ∙ and-true (eqb x r)
+
+pub same-out : (r x : ℕ) → 64 ≤ r → same? r x ≡ false
+unfolding same?
+same-out r x g = ap (λ (p : Bool). eqb x r && p) (le-ltb r 64 g) ∙ and-false (eqb x r)
+
+pub same-eq : (r x : ℕ) → same? r x ≡ true → x ≡ r
+unfolding same?
+same-eq r x e = eqb-true x r (and-left (eqb x r) (ltb r 64) e)
+
+pub same-self : (r : ℕ) → r < 64 → same? r r ≡ true
+same-self r l = same-is r r l ∙ eq-eqb r r refl
+
+-- ---- difference, one role: what the code computes
+
+pub bit-minus : (s t x : ℕ) → s < 2 ^ 64 → t < 2 ^ 64 → bit (bitAnd s ((2 ^ 64 - 1) - t)) x ≡ (bit s x && not (bit t x))
+bit-minus s t x hs ht =
+    bit-and s ((2 ^ 64 - 1) - t) x
+    ∙ ⊎-elim
+    (λ (l : x < 64). ap (λ (p : Bool). bit s x && p) (bit-not 64 t x ht l))
+    (λ (g : 64 ≤ x). cc (bit-out 64 s x hs g))
+    (lt-or-ge x 64)
+
+pub bit-test : (s r : ℕ) → eqb (bitAnd (s / 2 ^ r) 1) 1 ≡ bit s r
+unfolding bit
+bit-test s r = ap (λ (x : ℕ). eqb x 1) (and-mask (s / 2 ^ r) 1)
+
+pub bit-shift : (r x : ℕ) → r < 64 → bit ((1 * 2 ^ r) % 2 ^ 64) x ≡ same? r x
+bit-shift r x l =
+    ap (λ (n : ℕ). bit (n % 2 ^ 64) x) (one-mul (2 ^ r))
+    ∙ ap (λ (n : ℕ). bit n x) (mod-eq-of-lt (pow-lt l))
+    ∙ bit-pow r x
+    ∙ sym (same-is r x l)
+
+-- ---- parts
+
+-- a set whose difference from t is empty is a part of t, and the other way round
+pub minus-part : (s t d : ℕ) → d < 2 ^ 64 → ((x : ℕ) → bit d x ≡ (bit s x && not (bit t x))) → (eqb d 0 ≡ true) ↔ (s ⊆ t)
+minus-part s t d h e = (
+  λ z x m. ⊎-elim (λ y. y)
+      (λ n. let w : bit d x ≡ true = e x ∙ and-both (bit s x) (not (bit t x)) m (ap not n) in cc (bit-zero x, ap (λ (k : ℕ). bit k x) (eqb-true d 0 z)))
+      (true-or-false (bit t x)),
+  λ f. eq-eqb d 0 (no-members d h (λ x. e x ∙ ⊎-elim
+      (λ m. ap (λ (p : Bool). bit s x && not p) (f x m) ∙ and-false (bit s x))
+      (λ n. ap (λ (p : Bool). p && not (bit t x)) n)
+      (true-or-false (bit s x)))),
+)
+
+pub part-is : (s t : ℕ) → s < 2 ^ 64 → t < 2 ^ 64 → (part? s t ≡ true) ↔ (s ⊆ t)
+unfolding part?
+part-is s t hs ht = (
+  λ e x m. ap (λ (n : ℕ). bit n x) (sym (eqb-true (bitOr s t) t e)) ∙ bit-or s t x ∙ or-left (bit s x) (bit t x) m,
+  λ f. eq-eqb (bitOr s t) t (ext 64 (bitOr s t) t (or-lt 64 s t hs ht) ht (λ x l. bit-or s t x ∙ absorb (bit s x) (bit t x) (f x))),
+)
+  where
+    absorb : (p q : Bool) → (p ≡ true → q ≡ true) → (p || q) ≡ q
+    absorb true q h = sym (h refl)
+    absorb false q h = refl
+
+-- ---- the lowest role
+
+pub bit-lowest : (k s : ℕ) → 0 < s → s < 2 ^ k → trailingZeros k s ∈ s
+unfolding trailingZeros
+bit-lowest zero s p h = absurd (omega arith)
+bit-lowest (suc k) s p h = go (s % 2) refl (λ q. bit-lowest k (s / 2) q (half-lt k s h))
+  where
+    go : (d : ℕ) → s % 2 ≡ d → (0 < s / 2 → bit (s / 2) (trailingZeros k (s / 2)) ≡ true) → bit s (under d (trailingZeros k (s / 2))) ≡ true
+    go zero e ih = bit-high s (trailingZeros k (s / 2)) ∙ ih (omega arith)
+    go (suc d) e ih =
+        let one : s % 2 ≡ 1 = omega (arith, mod-lt s two-pos) in
+        bit-low s ∙ ap (λ (x : ℕ). eqb x 1) one
+
+pub lowest-least : (k s x : ℕ) → x ∈ s → trailingZeros k s ≤ x
+unfolding trailingZeros
+lowest-least zero s x e = zero-le
+lowest-least (suc k) s x e = go (s % 2) refl x e (λ y. lowest-least k (s / 2) y)
+  where
+    go : (d : ℕ) → s % 2 ≡ d → (x : ℕ) → bit s x ≡ true → ((y : ℕ) → bit (s / 2) y ≡ true → trailingZeros k (s / 2) ≤ y) → under d (trailingZeros k (s / 2)) ≤ x
+    go (suc d) q x e ih = zero-le
+    go zero q zero e ih = absurd (false-no (bit-low s ∙ ap (λ (n : ℕ). eqb n 1) q) e)
+    go zero q (suc x) e ih = suc-le-suc (ih x (sym (bit-high s x) ∙ e))
+
+pub lowest-lt : (s : ℕ) → 0 < s → s < 2 ^ 64 → trailingZeros 64 s < 64
+lowest-lt s p h = bit-lt 64 h (bit-lowest 64 s p h)
+
+pub lowest-unique : (s : ℕ) (p q : Pick) → Lowest s p → Lowest s q → p ≡ q
+lowest-unique s (Role m) (Role n) h g = ap Role (le-antisymm (h .least n (g .member)) (g .least m (h .member)))
+lowest-unique s (Role m) Nobody h g = absurd (false-no (g .none m) (h .member))
+lowest-unique s Nobody (Role n) h g = absurd (false-no (h .none n) (g .member))
+lowest-unique s Nobody Nobody h g = refl
+
+-- ---- the set of what a test says
+
+pub setOf-fits : (f : ℕ → Bool) → setOf f < 2 ^ 64
+unfolding setOf
+setOf-fits f = digits-fit 64 f
+
+pub bit-setOf : (f : ℕ → Bool) (x : ℕ) → x < 64 → bit (setOf f) x ≡ f x
+unfolding setOf
+bit-setOf f x l = bit-digits 64 f x l
+
+-- at every number, where the test is false of numbers that are no role
+pub in-setOf : (f : ℕ → Bool) (x : ℕ) → (f x ≡ true → x < 64) → bit (setOf f) x ≡ f x
+in-setOf f x h = ⊎-elim
+    (λ (l : x < 64). bit-setOf f x l)
+    (λ (g : 64 ≤ x). bit-out 64 (setOf f) x (setOf-fits f) g ∙ sym (not-so (f x) (λ e. absurd (omega (arith, h e)))))
+    (lt-or-ge x 64)
+
+pub is-setOf : (s : ℕ) (f : ℕ → Bool) → s < 2 ^ 64 → ((x : ℕ) → x < 64 → bit s x ≡ f x) → s ≡ setOf f
+is-setOf s f h e = ext 64 s (setOf f) h (setOf-fits f) (λ x l. e x l ∙ sym (bit-setOf f x l))
+
+-- ---- sizes
+
+num-mono : (p q : Bool) → (p ≡ true → q ≡ true) → num p ≤ num q
+num-mono true q h = rw (h refl) (le-refl 1)
+num-mono false q h = zero-le
+
+-- a part has at most as many
+pub ones-mono : (s t : ℕ) → s ⊆ t → ones s ≤ ones t
+ones-mono s =
+    bin-ind (λ (n : ℕ). (t : ℕ) → ((x : ℕ) → bit n x ≡ true → bit t x ≡ true) → ones n ≤ ones t)
+    (λ t h. unfold ones in zero-le)
+    (λ n ih t h.
+    let up : ones (n / 2) ≤ ones (t / 2) = ih (t / 2) (λ x e. sym (bit-high t x) ∙ h (suc x) (bit-high n x ∙ e)) in
+    let low : num (bit n 0) ≤ num (bit t 0) = num-mono (bit n 0) (bit t 0) (h 0) in
+    omega (arith, ones-step n, ones-step t, low-num n, low-num t)) s
+
+-- a part that lacks a member has fewer
+pub ones-more : (s t r : ℕ) → bit s r ≡ false → r ∈ t → s ⊆ t → ones s < ones t
+ones-more s t zero p q h =
+    let up : ones (s / 2) ≤ ones (t / 2) = ones-mono (s / 2) (t / 2) (λ x e. sym (bit-high t x) ∙ h (suc x) (bit-high s x ∙ e)) in
+    let ls : num (bit s 0) ≡ 0 = ap num p in
+    let lt : num (bit t 0) ≡ 1 = ap num q in
+    omega (arith, ones-step s, ones-step t, low-num s, low-num t)
+ones-more s t (suc r) p q h =
+    let up : ones (s / 2) < ones (t / 2) =
+    ones-more (s / 2) (t / 2) r (sym (bit-high s r) ∙ p) (sym (bit-high t r) ∙ q) (λ x e. sym (bit-high t x) ∙ h (suc x) (bit-high s x ∙ e)) in
+    let low : num (bit s 0) ≤ num (bit t 0) = num-mono (bit s 0) (bit t 0) (h 0) in
+    omega (arith, ones-step s, ones-step t, low-num s, low-num t)
+
+-- a part with as many is the whole
+pub part-whole : (s t : ℕ) → s < 2 ^ 64 → t < 2 ^ 64 → s ⊆ t → ones t ≤ ones s → s ≡ t
+part-whole s t hs ht p c = ext 64 s t hs ht (λ x _. iff-same (bit s x) (bit t x) (p x) (back x))
+  where
+    back : (x : ℕ) → x ∈ t → x ∈ s
+    back x m = ⊎-elim (λ e. e) (λ e. absurd (omega (arith, ones-more s t x e m p))) (true-or-false (bit s x))
+
+-- ---- one member goes
+
+pub ones-less : (s t r : ℕ) → r < 64 → r ∈ s → ((x : ℕ) → bit t x ≡ (bit s x && not (same? r x))) → ones t < ones s
+ones-less s t r l m e =
+    ones-more t s r
+    (e r ∙ ap (λ (p : Bool). bit s r && not p) (same-self r l) ∙ and-false (bit s r))
+    m
+    (λ x d. and-left (bit s x) (not (same? r x)) (sym (e x) ∙ d))
+
+-- the members of s but r
+abbrev pub but : ℕ → ℕ → ℕ
+but s r = setOf (λ x. bit s x && not (same? r x))
+
+pub bit-but : (s r : ℕ) → s < 2 ^ 64 → (x : ℕ) → bit (but s r) x ≡ (bit s x && not (same? r x))
+bit-but s r h x = in-setOf (λ x. bit s x && not (same? r x)) x (λ e. bit-lt 64 h (and-left (bit s x) (not (same? r x)) e))

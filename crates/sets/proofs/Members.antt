@@ -1,0 +1,44 @@
+-- A loop that takes the roles of a set one by one, the lowest first. Assumes nothing.
+use mathlib.Core.Path.{_≡_, sym, ap, _∙_, subst}
+use mathlib.Core.Bool.{Bool, false, not, _&&_, and-true}
+use mathlib.Core.Logic.{_⊎_, inl, inr, ⊎-elim}
+use Prim.Native.Nat.{ℕ, _<_}
+use lib.Count.{ones}
+use Rattle.sets.specs.Sets.{bit, _∈_, _⊆_, same?, LowestRole, NoRole, Lowest}
+use Rattle.sets.specs.declared.Pick.{Pick}
+use Rattle.sets.specs.declared.Pick.the-variants.{Role, Nobody}
+use Rattle.sets.proofs.Bools.{true-or-false, and-left, and-both}
+use Rattle.sets.proofs.Laws.{same-eq, ones-less}
+
+-- one turn: x, the lowest role of rest, goes
+pub record Taken (rest x rest′ : ℕ) : Type 0 where
+  pub lowest : LowestRole rest x
+  pub rest-is : (y : ℕ) → bit rest′ y ≡ (bit rest y && not (same? x y))
+
+module _ {rest x rest′ : ℕ} (t : Taken rest x rest′) where
+  pub taken-less : ones rest′ < ones rest
+  taken-less = ones-less rest rest′ x (t .lowest .role) (t .lowest .member) (t .rest-is)
+
+  pub taken-part : rest′ ⊆ rest
+  taken-part y e = and-left (bit rest y) (not (same? x y)) (sym (t .rest-is y) ∙ e)
+
+  -- what is left out of rest′ was left out of rest, or is x
+  pub taken-cases : (y : ℕ) → bit rest′ y ≡ false → (bit rest y ≡ false) ⊎ (y ≡ x)
+  taken-cases y e = ⊎-elim
+      (λ s. inr (same-eq x y s))
+      (λ n. inl (sym (t .rest-is y ∙ ap (λ (p : Bool). bit rest y && not p) n ∙ and-true (bit rest y)) ∙ e))
+      (true-or-false (same? x y))
+
+  -- what was in rest is in rest′, or is x
+  pub taken-kept : (y : ℕ) → y ∈ rest → (y ∈ rest′) ⊎ (y ≡ x)
+  taken-kept y e = ⊎-elim
+      (λ s. inr (same-eq x y s))
+      (λ n. inl (t .rest-is y ∙ and-both (bit rest y) (not (same? x y)) e (ap not n)))
+      (true-or-false (same? x y))
+
+-- what the answer of `lowest` says, by its two cases
+pub picked : {s r : ℕ} {p : Pick} → p ≡ Role r → Lowest s p → LowestRole s r
+picked {s} e l = subst (Lowest s) e l
+
+pub nobody : {s : ℕ} {p : Pick} → p ≡ Nobody → Lowest s p → NoRole s
+nobody {s} e l = subst (Lowest s) e l

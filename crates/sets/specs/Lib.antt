@@ -1,0 +1,2 @@
+-- What `sets` means by a set of roles.
+pub mod Sets
