@@ -1,0 +1,283 @@
+-- Tables row by row and entry by entry: what the code of the effects cites. Assumes nothing.
+use mathlib.Core.Path.{_≡_, refl, sym, ap, _∙_, subst}
+use mathlib.Core.Bool.{Bool, true, false, cond, not, _&&_, _||_, and-true, and-false, or-true, or-false, or-assoc, and-comm}
+use mathlib.Core.Logic.{_≢_, ⊎-elim}
+use mathlib.Core.List.{List}
+use Prim.Native.Nat.{ℕ, zero, suc, _^_, _≤_, _<_}
+use native.Mathlib.Nat.{not-suc-le-zero, le-of-suc-le-suc}
+use native.Mathlib.Omega.{arith}
+use lib.Dec.{eqb, lit<}
+use lib.ListN.{set, length, length-set, List·getD-eq-default}
+use lib.Seq.{getD-set-same, getD-set-other, ext-getD}
+use borrow.Author.Tests.{eqb-true, eqb-false, ne-eqb}
+use Rattle.sets.specs.Sets.{bit, _∈_, _⊆_, same?, digits, setOf, NoRole}
+use Rattle.sets.proofs.Bools.{true-or-false, false-no, lt-or-ge}
+use Rattle.sets.proofs.Digits.{bit-zero}
+use Rattle.sets.proofs.Laws.{same-is, same-out, same-eq, same-self, setOf-fits, bit-setOf, is-setOf, bit-lt}
+use Rattle.sets.proofs.Members.{Taken, taken-part}
+use Rattle.hierarchy.specs.Tables.{row}
+use Rattle.board.specs.Effects.{hasI, hasA, lives, listOf, pair, entry, tableAfter, after}
+use Rattle.board.specs.declared.Board.{Board}
+use Rattle.board.specs.declared.Command.{Command}
+
+pub cond-true : {A : Type 0} {p : Bool} (u v : A) → p ≡ true → cond p u v ≡ u
+cond-true u v e = ap (λ (q : Bool). cond q u v) e
+
+pub cond-false : {A : Type 0} {p : Bool} (u v : A) → p ≡ false → cond p u v ≡ v
+cond-false u v e = ap (λ (q : Bool). cond q u v) e
+
+cond-when : {A : Type 0} (p : Bool) (u v w : A) → (p ≡ true → u ≡ v) → cond p u w ≡ cond p v w
+cond-when true u v w h = h refl
+cond-when false u v w h = refl
+
+-- ---- one row, one set
+
+pub row-set : (t : List ℕ) (x s z y : ℕ) → length t ≡ 64 → x < 64 → bit (row (set t x s) z) y ≡ cond (same? x z) (bit s y) (bit (row t z) y)
+row-set t x s z y h l = ⊎-elim
+    (λ e. rw (same-eq x z e, getD-set-same t x s 0 (omega arith)) (sym (cond-true (bit s y) (bit (row t x) y) (same-self x l))))
+    (λ e. rw (getD-set-other t x z s 0 (λ (q : z ≡ x). false-no (ap (same? x) (sym q) ∙ e) (same-self x l))) (sym (cond-false (bit s y) (bit (row t z) y) e)))
+    (true-or-false (same? x z))
+
+pub row-past : (t : List ℕ) (x s z y : ℕ) → 64 ≤ x → bit (row t z) y ≡ cond (same? x z) (bit s y) (bit (row t z) y)
+row-past t x s z y g = sym (cond-false (bit s y) (bit (row t z) y) (same-out x z g))
+
+pub put-in : (o m p : Bool) → p ≡ true → (o || m) ≡ cond m p o
+put-in o true p e = or-true o ∙ sym e
+put-in o false p e = or-false o
+
+pub put-out : (o m p : Bool) → p ≡ false → (o && not m) ≡ cond m p o
+put-out o true p e = and-false o ∙ sym e
+put-out o false p e = and-true o
+
+-- ---- the rows of some seniors: rest are those still to do
+
+pub record Entering (t : List ℕ) (seniors junior : ℕ) (part : Bool) (n : List ℕ) (rest : ℕ) : Type 0 where
+  pub rows : length n ≡ 64
+  pub few : rest ⊆ seniors
+  pub entries : (x y : ℕ) → bit (row n x) y ≡ cond ((bit seniors x && not (bit rest x)) && same? junior y) part (bit (row t x) y)
+
+none-yet : (s m p o : Bool) → o ≡ cond ((s && not s) && m) p o
+none-yet true m p o = refl
+none-yet false m p o = refl
+
+-- a row is the one of this turn, e, or stays
+one-more : (e s r m p o : Bool) → (e ≡ true → s ≡ true) → (e ≡ true → r ≡ true)
+    → cond e (cond m p (cond ((s && not r) && m) p o)) (cond ((s && not r) && m) p o) ≡ cond ((s && not (r && not e)) && m) p o
+one-more true s r m p o f g = rw (f refl, g refl)
+one-more false s r m p o f g = rw and-true
+
+pub entering-start : (t : List ℕ) (seniors junior : ℕ) (part : Bool) → length t ≡ 64 → Entering t seniors junior part t seniors
+entering-start t seniors junior part h = record { rows = h; few = λ x e. e; entries = λ x y. none-yet (bit seniors x) (same? junior y) part (bit (row t x) y) }
+
+pub entering-turn : {t n : List ℕ} {seniors junior rest x rest′ : ℕ} {part : Bool} (w : ℕ)
+    → Entering t seniors junior part n rest → Taken rest x rest′ → ((y : ℕ) → bit w y ≡ cond (same? junior y) part (bit (row n x) y))
+    → Entering t seniors junior part (set n x w) rest′
+entering-turn {t} {n} {seniors} {junior} {rest} {x} {rest′} {part} w inv taken is = record {
+  rows = length-set n x w ∙ inv .rows;
+  few = λ z e. inv .few z (taken-part taken z e);
+  entries = λ z y.
+      row-set n x w z y (inv .rows) (taken .lowest .role)
+      ∙ cond-when (same? x z) (bit w y) (cond (same? junior y) part (bit (row n z) y)) (bit (row n z) y)
+      (λ e. is y ∙ ap (λ (k : ℕ). cond (same? junior y) part (bit (row n k) y)) (sym (same-eq x z e)))
+      ∙ rw (inv .entries z y, taken .rest-is z)
+      (one-more (same? x z) (bit seniors z) (bit rest z) (same? junior y) part (bit (row t z) y)
+      (λ e. rw (same-eq x z e) (inv .few x (taken .lowest .member)))
+      (λ e. rw (same-eq x z e) (taken .lowest .member)));
+}
+
+pub entering-end : {t n : List ℕ} {seniors junior rest : ℕ} {part : Bool} → NoRole rest → Entering t seniors junior part n rest
+    → (x y : ℕ) → bit (row n x) y ≡ cond (bit seniors x && same? junior y) part (bit (row t x) y)
+entering-end none inv x y = inv .entries x y ∙ rw (none .none x, and-true)
+
+-- ---- a table known by its entries
+
+listOf-length : (n : ℕ) (f : ℕ → ℕ) → length (listOf n f) ≡ n
+unfolding listOf
+listOf-length zero f = refl
+listOf-length (suc n) f = ap suc (listOf-length n (λ k. f (suc k)))
+
+listOf-row : (n : ℕ) (f : ℕ → ℕ) (x : ℕ) → x < n → row (listOf n f) x ≡ f x
+unfolding listOf
+listOf-row zero f x l = absurd (not-suc-le-zero l)
+listOf-row (suc n) f zero l = refl
+listOf-row (suc n) f (suc x) l = listOf-row n (λ k. f (suc k)) x (le-of-suc-le-suc l)
+
+-- r is t after the command, entry by entry
+pub record Entries (c : Command) (s j : ℕ) (p : Bool) (t r : List ℕ) : Type 0 where
+  pub entries : (x y : ℕ) → x < 64 → y < 64 → bit (row r x) y ≡ entry c s j p (bit (row t x) y) x y
+
+module _ (c : Command) (s j : ℕ) (p : Bool) (t : List ℕ) where
+  pub table-length : length (tableAfter c s j p t) ≡ 64
+  unfolding tableAfter
+  table-length = listOf-length 64 _
+
+  row-is : (x : ℕ) → x < 64 → row (tableAfter c s j p t) x ≡ setOf (λ y. entry c s j p (bit (row t x) y) x y)
+  unfolding tableAfter
+  row-is x l = listOf-row 64 _ x l
+
+  pub table-entry : (x y : ℕ) → x < 64 → y < 64 → bit (row (tableAfter c s j p t) x) y ≡ entry c s j p (bit (row t x) y) x y
+  table-entry x y l m = ap (λ (k : ℕ). bit k y) (row-is x l) ∙ bit-setOf _ y m
+
+  pub table-fits : (x : ℕ) → row (tableAfter c s j p t) x < 2 ^ 64
+  table-fits x = ⊎-elim
+      (λ l. subst (λ (k : ℕ). k < 2 ^ 64) (sym (row-is x l)) (setOf-fits _))
+      (λ g. subst (λ (k : ℕ). k < 2 ^ 64) (sym (List·getD-eq-default (tableAfter c s j p t) 0 (omega (arith, table-length)))) (lit< tt))
+      (lt-or-ge x 64)
+
+  pub in-table : (x y : ℕ) → y ∈ row (tableAfter c s j p t) x → (x < 64) × (y < 64) × (entry c s j p (bit (row t x) y) x y ≡ true)
+  in-table x y e =
+      let l : x < 64 = ⊎-elim (λ m. m)
+      (λ g. absurd (false-no (bit-zero y) (ap (λ (k : ℕ). bit k y) (sym (List·getD-eq-default (tableAfter c s j p t) 0 (omega (arith, table-length)))) ∙ e)))
+      (lt-or-ge x 64) in
+      let m : y < 64 = bit-lt 64 (table-fits x) e in
+      (l, m, sym (table-entry x y l m) ∙ e)
+
+  pub table-is : (r : List ℕ) → length r ≡ 64 → ((x : ℕ) → row r x < 2 ^ 64) → Entries c s j p t r → r ≡ tableAfter c s j p t
+  table-is r h f e =
+      ext-getD 0 r (tableAfter c s j p t) (h ∙ sym table-length)
+      (λ x l. is-setOf (row r x) _ (f x) (λ y m. e .entries x y (omega arith) m) ∙ sym (row-is x (omega arith)))
+
+-- ---- by code: what each line of the effects says of an entry
+
+bit-every : (x : ℕ) → x < 64 → bit 0xffff_ffff_ffff_ffff x ≡ true
+unfolding setOf digits
+bit-every x l = bit-setOf (λ _. true) x l
+
+-- below 64 the test for a role is the test for a number
+is-role : (r x : ℕ) → x < 64 → same? r x ≡ eqb x r
+is-role r x l = ⊎-elim (λ (m : r < 64). same-is r x m) (λ (g : 64 ≤ r). same-out r x g ∙ sym (ne-eqb x r (λ q. absurd (omega arith)))) (lt-or-ge r 64)
+
+module _ (c : Command) (s j : ℕ) (p o : Bool) (x y : ℕ) where
+  pub entry-1 : c .code ≡ 1 → entry c s j p o x y ≡ (o || ((eqb y (c .role) && bit s x) || (eqb x (c .role) && bit j y)))
+  unfolding entry
+  entry-1 e = rw e
+
+  pub entry-2 : c .code ≡ 2 → entry c s j p o x y ≡ (o && not (eqb x (c .role) || eqb y (c .role)))
+  unfolding entry
+  entry-2 e = rw e
+
+  entry-3 : c .code ≡ 3 → entry c s j p o x y ≡ (o || (pair c x y && p))
+  unfolding entry
+  entry-3 e = rw e
+
+  entry-4 : c .code ≡ 4 → entry c s j p o x y ≡ (o && not (pair c x y))
+  unfolding entry
+  entry-4 e = rw e
+
+  entry-5 : c .code ≡ 5 → entry c s j p o x y ≡ cond (pair c x y) p o
+  unfolding entry
+  entry-5 e = rw e
+
+  entry-else : c .code ≢ 1 → c .code ≢ 2 → c .code ≢ 3 → c .code ≢ 4 → c .code ≢ 5 → entry c s j p o x y ≡ o
+  unfolding entry
+  entry-else e1 e2 e3 e4 e5 = rw (ne-eqb (c .code) 1 e1, ne-eqb (c .code) 2 e2, ne-eqb (c .code) 3 e3, ne-eqb (c .code) 4 e4, ne-eqb (c .code) 5 e5)
+
+  -- an edge command leaves every other pair
+  pub entry-other : c .code ≢ 1 → c .code ≢ 2 → pair c x y ≡ false → entry c s j p o x y ≡ o
+  unfolding entry
+  entry-other e1 e2 d = rw (ne-eqb (c .code) 1 e1, ne-eqb (c .code) 2 e2, d) (same (eqb (c .code) 3) (eqb (c .code) 4) (eqb (c .code) 5))
+    where
+      same : (k3 k4 k5 : Bool) → cond k3 (o || false) (cond k4 (o && true) (cond k5 o o)) ≡ o
+      same true k4 k5 = or-false o
+      same false true k5 = and-true o
+      same false false true = refl
+      same false false false = refl
+
+-- the role's own row gets the juniors
+grow : (e q j o : Bool) → cond e ((o || q) || j) (o || q) ≡ (o || (q || (e && j)))
+grow true q j o = or-assoc o q j
+grow false q j o = rw (or-false q)
+
+-- the role's own row is emptied
+shrink : (e m o : Bool) → cond e false (cond m false o) ≡ (o && not (e || m))
+shrink true m o = sym (and-false o)
+shrink false m o = sym (put-out o m false refl)
+
+-- what `entered` and `with_row` promise of their tables
+abbrev pub HasEntered : List ℕ → ℕ → ℕ → Bool → List ℕ → Type 0
+HasEntered t s j p r = (x y : ℕ) → bit (row r x) y ≡ cond (bit s x && same? j y) p (bit (row t x) y)
+
+abbrev pub HasRow : List ℕ → ℕ → ℕ → List ℕ → Type 0
+HasRow t x s r = (z y : ℕ) → bit (row r z) y ≡ cond (same? x z) (bit s y) (bit (row t z) y)
+
+module _ (c : Command) (s j : ℕ) (p : Bool) (t : List ℕ) where
+  pub adds : c .code ≡ 1 → (n r : List ℕ) (w : ℕ) → HasEntered t s (c .role) true n → ((y : ℕ) → bit w y ≡ (bit (row n (c .role)) y || bit j y))
+      → HasRow n (c .role) w r → Entries c s j p t r
+  adds e n r w hn hw hr = record {
+    entries = λ x y l m.
+        let o = bit (row t x) y in
+        let q = eqb y (c .role) && bit s x in
+        let old : bit (row n x) y ≡ (o || q) =
+        hn x y ∙ sym (put-in o (bit s x && same? (c .role) y) true refl) ∙ rw (is-role (c .role) y m, and-comm (bit s x) (eqb y (c .role))) in
+        hr x y
+        ∙ cond-when (same? (c .role) x) (bit w y) (bit (row n x) y || bit j y) (bit (row n x) y)
+        (λ d. hw y ∙ ap (λ (k : ℕ). bit (row n k) y || bit j y) (sym (same-eq (c .role) x d)))
+        ∙ rw (old, is-role (c .role) x l) (grow (eqb x (c .role)) q (bit j y) o)
+        ∙ sym (entry-1 c s j p o x y e);
+  }
+
+  pub removes : c .code ≡ 2 → (n r : List ℕ) → HasEntered t 0xffff_ffff_ffff_ffff (c .role) false n → HasRow n (c .role) 0 r → Entries c s j p t r
+  removes e n r hn hr = record {
+    entries = λ x y l m.
+        hr x y
+        ∙ rw (hn x y, bit-zero y, bit-every x l, is-role (c .role) x l, is-role (c .role) y m) (shrink (eqb x (c .role)) (eqb y (c .role)) (bit (row t x) y))
+        ∙ sym (entry-2 c s j p (bit (row t x) y) x y e);
+  }
+
+  module _ (k : ℕ) (single : (x : ℕ) → bit k x ≡ same? (c .role) x) where
+    paired : (q : Bool) (r : List ℕ) → HasEntered t k (c .junior) q r → (x y : ℕ) → x < 64 → y < 64 → bit (row r x) y ≡ cond (pair c x y) q (bit (row t x) y)
+    paired q r h x y l m = h x y ∙ rw (single x, is-role (c .role) x l, is-role (c .junior) y m)
+
+    pub links : c .code ≡ 3 → p ≡ true → (r : List ℕ) → HasEntered t k (c .junior) true r → Entries c s j p t r
+    links e d r h = record {
+      entries = λ x y l m.
+          let o = bit (row t x) y in
+          paired true r h x y l m
+          ∙ sym (put-in o (pair c x y) true refl)
+          ∙ (rw (d, and-true (pair c x y)))
+          ∙ sym (entry-3 c s j p o x y e);
+    }
+
+    pub unlinks : c .code ≡ 4 → (r : List ℕ) → HasEntered t k (c .junior) false r → Entries c s j p t r
+    unlinks e r h = record {
+      entries = λ x y l m.
+          let o = bit (row t x) y in
+          paired false r h x y l m ∙ sym (put-out o (pair c x y) false refl) ∙ sym (entry-4 c s j p o x y e);
+    }
+
+    pub changes : c .code ≡ 5 → (r : List ℕ) → HasEntered t k (c .junior) p r → Entries c s j p t r
+    changes e r h = record {
+      entries = λ x y l m. paired p r h x y l m ∙ sym (entry-5 c s j p (bit (row t x) y) x y e);
+    }
+
+  pub keeps : c .code ≢ 1 → c .code ≢ 2 → (c .code ≡ 3 → p ≡ false) → c .code ≢ 4 → c .code ≢ 5 → Entries c s j p t t
+  keeps e1 e2 e3 e4 e5 = record {
+    entries = λ x y l m.
+        let o = bit (row t x) y in
+        ⊎-elim
+        (λ e. sym (entry-3 c s j p o x y (eqb-true (c .code) 3 e) ∙ rw (e3 (eqb-true (c .code) 3 e), and-false (pair c x y), or-false o)))
+        (λ e. sym (entry-else c s j p o x y e1 e2 (eqb-false (c .code) 3 e) e4 e5))
+        (true-or-false (eqb (c .code) 3));
+  }
+
+-- ---- the live roles, and the whole board
+
+module _ (c : Command) (s r : ℕ) (fits : r < 2 ^ 64) where
+  pub born : c .code ≡ 1 → ((x : ℕ) → bit r x ≡ (bit s x || same? (c .role) x)) → r ≡ setOf (λ x. lives c (bit s x) x)
+  unfolding lives
+  born e h = is-setOf r _ fits (λ x l. h x ∙ rw (e, is-role (c .role) x l))
+
+  pub gone : c .code ≡ 2 → ((x : ℕ) → bit r x ≡ (bit s x && not (same? (c .role) x))) → r ≡ setOf (λ x. lives c (bit s x) x)
+  unfolding lives
+  gone e h = is-setOf r _ fits (λ x l. h x ∙ rw (e, is-role (c .role) x l))
+
+  pub living : c .code ≢ 1 → c .code ≢ 2 → ((x : ℕ) → bit r x ≡ bit s x) → r ≡ setOf (λ x. lives c (bit s x) x)
+  unfolding lives
+  living e1 e2 h = is-setOf r _ fits (λ x l. h x ∙ rw (ne-eqb (c .code) 1 e1, ne-eqb (c .code) 2 e2))
+
+pub board-is : (b : Board) (c : Command) (live : ℕ) (i a : List ℕ) → live ≡ setOf (λ x. lives c (bit (b .live) x) x)
+    → i ≡ tableAfter c (c .«i_seniors») (c .«i_juniors») (hasI (c .kind)) (b .i)
+    → a ≡ tableAfter c (c .«a_seniors») (c .«a_juniors») (hasA (c .kind)) (b .a)
+    → _≡_ {A = Board} record { live = live; i = i; a = a } (after b c)
+unfolding after
+board-is b c live i a p q r = rw (p, q, r)

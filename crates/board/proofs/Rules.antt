@@ -1,0 +1,45 @@
+-- Refusal tables: what done says, and two tables in a row. Assumes nothing.
+use mathlib.Core.Path.{_≡_}
+use mathlib.Core.Bool.{Bool, true, _&&_}
+use mathlib.Core.Logic.{inl, inr, _≢_}
+use mathlib.Core.List.{List, [], _∷_, _++_}
+use Prim.Native.Nat.{ℕ}
+use native.Mathlib.Omega.{arith}
+use lib.Dec.{ltb}
+use borrow.Author.Tests.{ltb-true}
+use Rattle.sets.proofs.Bools.{and-left, and-right}
+use Rattle.hierarchy.specs.First.{First}
+
+-- a row that says "not P" passes: P
+pub stable : {P : Type 0} → Dec P → ((P → ⊥) → ⊥) → P
+stable (yes p) h = p
+stable (no n) h = absurd (h n)
+
+-- no rule has the number 0, which is done
+abbrev pub numbered : List (ℕ × Type 0) → Bool
+numbered [] = true
+numbered (rule ∷ rest) = ltb 0 (rule .0) && numbered rest
+
+-- every condition fails
+abbrev pub Passed : List (ℕ × Type 0) → Type 0
+Passed [] = Unit {0}
+Passed (rule ∷ rest) = (rule .1 → ⊥) × Passed rest
+
+pub first-done : (rules : List (ℕ × Type 0)) → numbered rules ≡ true → First rules 0 → Passed rules
+unfolding First
+first-done [] e f = tt
+first-done (rule ∷ rest) e (inl p) = absurd (omega (arith, p .1, ltb-true 0 (rule .0) (and-left (ltb 0 (rule .0)) (numbered rest) e)))
+first-done (rule ∷ rest) e (inr p) = (p .0, first-done rest (and-right (ltb 0 (rule .0)) (numbered rest) e) (p .1))
+
+-- a refusal of the first table is one of both
+pub first-refused : (xs ys : List (ℕ × Type 0)) (n : ℕ) → n ≢ 0 → First xs n → First (xs ++ ys) n
+unfolding First
+first-refused [] ys n h f = absurd (h f)
+first-refused (x ∷ xs) ys n h (inl p) = inl p
+first-refused (x ∷ xs) ys n h (inr p) = inr (p .0, first-refused xs ys n h (p .1))
+
+-- past the first table the second decides
+pub first-next : (xs ys : List (ℕ × Type 0)) (n : ℕ) → Passed xs → First ys n → First (xs ++ ys) n
+unfolding First
+first-next [] ys n p f = f
+first-next (x ∷ xs) ys n p f = inr (p .0, first-next xs ys n (p .1) f)

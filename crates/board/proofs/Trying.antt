@@ -1,0 +1,265 @@
+-- The rows of the table of refusals, each from what the code tests. Assumes nothing.
+use mathlib.Core.Path.{_≡_, refl, sym, ap, _∙_, subst}
+use mathlib.Core.Bool.{Bool, true, false, not, _&&_, _||_, or-false, or-comm}
+use mathlib.Core.Logic.{_⊎_, inl, inr, ⊎-elim, _≢_, _↔_, dite, Iff·trans, Iff·rfl}
+use mathlib.Core.List.{List, _∷_}
+use Prim.Native.Nat.{ℕ, _^_, _≤_, _<_}
+use native.Mathlib.Decide.{ℕ-discrete}
+use native.Mathlib.Omega.{arith}
+use lib.Count.{trailingZeros}
+use lib.Dec.{eqb, leb}
+use borrow.Author.Tests.{eqb-true, eqb-false, eq-eqb, ne-eqb, leb-true, le-leb, not-true}
+use Rattle.sets.specs.Sets.{bit, _∈_, _⊆_, same?}
+use Rattle.sets.proofs.Bools.{true-or-false, or-cases, or-left, or-right, and-left, and-right, and-both, false-no, lt-or-ge, not-so}
+use Rattle.sets.proofs.Digits.{bit-zero}
+use Rattle.sets.proofs.Laws.{same-is, same-eq, bit-lowest}
+use Rattle.hierarchy.specs.Tables.{row, kind}
+use Rattle.hierarchy.specs.Words.{Scope, Sound}
+use Rattle.hierarchy.specs.First.{First}
+use Rattle.hierarchy.specs.Views.{AreViews}
+use Rattle.hierarchy.proofs.Checks.{and-is, or-is, not-is, eq-is}
+use Rattle.hierarchy.proofs.Derive.{edge-entry}
+use Rattle.hierarchy.proofs.FirstLaws.{hit, pass, none}
+use Rattle.hierarchy.proofs.ViewLaws.{admin-by}
+use Rattle.board.specs.Boards.{tablesOf}
+use Rattle.board.specs.Commands.{NamesKind, Malformed, asSenior, asJunior, needed, Missing, edgeKind, Standing, NoEdge, scoped, strictly, InScope, Outside, before, afterwards, refusals, Decided}
+use Rattle.board.specs.Commands.{Malformed.no-code, Malformed.no-actor, Malformed.no-role, Malformed.no-junior, Malformed.no-kind, Standing.role, Standing.edge}
+use Rattle.board.specs.Effects.{after}
+use Rattle.board.specs.Looks.{WithinScope, OutsideBy}
+use Rattle.board.specs.declared.Board.{Board}
+use Rattle.board.specs.declared.Command.{Command}
+use Rattle.board.proofs.Rules.{stable, first-done, first-refused, first-next}
+
+pub same-test : {P : Type 0} {p q : Bool} → p ≡ q → (q ≡ true) ↔ P → (p ≡ true) ↔ P
+same-test e f = (λ t. f .0 (sym e ∙ t), λ x. e ∙ f .1 x)
+
+-- ---- row 2
+
+pub always : {P : Type 0} → P → (true ≡ true) ↔ P
+always p = (λ e. p, λ q. refl)
+
+-- what is in range is not malformed
+pub ranged : (c : Command) → 1 ≤ c .code → c .code ≤ 5 → c .actor ≤ 63 → c .role ≤ 63 → (3 ≤ c .code → c .junior ≤ 63)
+    → (NamesKind c → (1 ≤ c .kind) × (c .kind ≤ 3)) → Malformed c → ⊥
+ranged c l h a r j k (no-code (inl w)) = omega arith
+ranged c l h a r j k (no-code (inr w)) = omega arith
+ranged c l h a r j k (no-actor w) = omega arith
+ranged c l h a r j k (no-role w) = omega arith
+ranged c l h a r j k (no-junior n w) = omega (arith, j n)
+ranged c l h a r j k (no-kind n (inl w)) = let q = k n in omega arith
+ranged c l h a r j k (no-kind n (inr w)) = let q = k n in omega arith
+
+pub names-kind : (c : Command) → 3 ≤ c .code → c .code ≤ 5 → c .code ≢ 4 → NamesKind c
+names-kind c l h n = dite (ℕ-discrete (c .code) 3) inl (λ k. inr (omega arith))
+
+-- and the other way round
+module _ (c : Command) (formed : Malformed c → ⊥) where
+  code-low : 1 ≤ c .code
+  code-low = ⊎-elim (λ l. absurd (formed (no-code (inl l)))) (λ g. g) (lt-or-ge (c .code) 1)
+
+  actor-lt : c .actor < 64
+  actor-lt = ⊎-elim (λ l. l) (λ g. absurd (formed (no-actor g))) (lt-or-ge (c .actor) 64)
+
+  role-lt : c .role < 64
+  role-lt = ⊎-elim (λ l. l) (λ g. absurd (formed (no-role g))) (lt-or-ge (c .role) 64)
+
+  junior-lt : 3 ≤ c .code → c .junior < 64
+  junior-lt n = ⊎-elim (λ l. l) (λ g. absurd (formed (no-junior n g))) (lt-or-ge (c .junior) 64)
+
+  -- ---- row 6: whose scope is asked for
+
+  module _ (x : ℕ) where
+    pub scoped-1 : c .code ≡ 1 → asSenior c x ≡ scoped c x
+    unfolding scoped
+    scoped-1 e = rw e (sym (or-false (asSenior c x)))
+
+    pub scoped-2 : c .code ≡ 2 → bit 0 x ≡ scoped c x
+    unfolding scoped
+    scoped-2 e = rw (e, bit-zero x)
+
+    pub scoped-3 : c .code ≢ 1 → c .code ≢ 2 → (same? (c .role) x || same? (c .junior) x) ≡ scoped c x
+    unfolding scoped
+    scoped-3 n1 n2 =
+        let three : 3 ≤ c .code = omega (arith, code-low) in
+        rw (same-is (c .role) x role-lt, same-is (c .junior) x (junior-lt three), ne-eqb (c .code) 1 n1, le-leb 3 (c .code) three)
+
+    pub strictly-1 : c .code ≡ 1 → asJunior c x ≡ strictly c x
+    unfolding strictly
+    strictly-1 e = rw e (sym (or-false (asJunior c x)))
+
+    pub strictly-2 : c .code ≡ 2 → same? (c .role) x ≡ strictly c x
+    unfolding strictly
+    strictly-2 e = rw (e, same-is (c .role) x role-lt)
+
+    pub strictly-3 : c .code ≢ 1 → c .code ≢ 2 → bit 0 x ≡ strictly c x
+    unfolding strictly
+    strictly-3 n1 n2 = rw (ne-eqb (c .code) 1 n1, ne-eqb (c .code) 2 n2, bit-zero x)
+
+    -- ---- row 3: these and the actor must exist
+
+    needed-1 : c .code ≡ 1 → ((asSenior c x || asJunior c x) || eqb x (c .actor)) ≡ needed c x
+    unfolding needed
+    needed-1 e = rw (e, or-false (asSenior c x || asJunior c x)) (or-comm (asSenior c x || asJunior c x) (eqb x (c .actor)))
+
+    needed-2 : c .code ≡ 2 → (eqb x (c .role) || eqb x (c .actor)) ≡ needed c x
+    unfolding needed
+    needed-2 e = rw (e, or-false (eqb x (c .role))) (or-comm (eqb x (c .role)) (eqb x (c .actor)))
+
+    needed-3 : c .code ≢ 1 → 3 ≤ c .code → ((eqb x (c .role) || eqb x (c .junior)) || eqb x (c .actor)) ≡ needed c x
+    unfolding needed
+    needed-3 n l = rw (ne-eqb (c .code) 1 n, le-leb 3 (c .code) l, le-leb 2 (c .code) (omega arith)) (or-comm (eqb x (c .role) || eqb x (c .junior)) (eqb x (c .actor)))
+
+    pub needed-is : ((scoped c x || strictly c x) || same? (c .actor) x) ≡ needed c x
+    needed-is = ⊎-elim
+        (λ k. let e = eqb-true (c .code) 1 k in rw (← scoped-1 e, ← strictly-1 e, same-is (c .actor) x actor-lt) (needed-1 e))
+        (λ k. ⊎-elim
+        (λ m. let e = eqb-true (c .code) 2 m in
+        rw (← scoped-2 e, ← strictly-2 e, bit-zero x, same-is (c .actor) x actor-lt, same-is (c .role) x role-lt) (needed-2 e))
+        (λ m.
+        let n1 = eqb-false (c .code) 1 k in
+        let n2 = eqb-false (c .code) 2 m in
+        let three : 3 ≤ c .code = omega (arith, code-low) in
+        rw (← scoped-3 n1 n2, ← strictly-3 n1 n2, bit-zero x, or-false (same? (c .role) x || same? (c .junior) x), same-is (c .actor) x actor-lt, same-is (c .role) x role-lt, same-is (c .junior) x (junior-lt three)) (needed-3 n1 three))
+        (true-or-false (eqb (c .code) 2)))
+        (true-or-false (eqb (c .code) 1))
+
+-- a set that is not 0 has a member
+pub some-member : (d : ℕ) → d < 2 ^ 64 → (not (eqb d 0) ≡ true) ↔ ((x : ℕ) × (x ∈ d))
+some-member d h = (
+  λ e. (trailingZeros 64 d, bit-lowest 64 d (let n = eqb-false d 0 (not-true (eqb d 0) e) in omega arith) h),
+  λ w. ap not (ne-eqb d 0 (λ z. false-no (bit-zero (w .0)) (subst (λ (k : ℕ). w .0 ∈ k) z (w .1)))),
+)
+
+-- the members of the first that the second lacks
+pub missing-is : (c : Command) (n d live : ℕ) → d < 2 ^ 64 → ((x : ℕ) → bit n x ≡ needed c x) → ((x : ℕ) → bit d x ≡ (bit n x && not (bit live x)))
+    → (not (eqb d 0) ≡ true) ↔ ((x : ℕ) × (needed c x ≡ true) × (bit live x ≡ false))
+missing-is c n d live h hn hd = Iff·trans (some-member d h) (
+  λ w.
+      let e = sym (hd (w .0)) ∙ w .1 in (
+        w .0,
+        sym (hn (w .0)) ∙ and-left (bit n (w .0)) (not (bit live (w .0))) e,
+        not-true (bit live (w .0)) (and-right (bit n (w .0)) (not (bit live (w .0))) e),
+      ),
+  λ w. (w .0, hd (w .0) ∙ and-both (bit n (w .0)) (not (bit live (w .0))) (hn (w .0) ∙ w .1) (ap not (w .2))),
+)
+
+-- the scope condition, by the sets of those asked for
+pub within-is : (scope : ℕ) (c : Command) (u s w : ℕ) → (Malformed c → ⊥) → ((x : ℕ) → bit u x ≡ scoped c x) → ((x : ℕ) → bit s x ≡ strictly c x)
+    → ((x : ℕ) → bit w x ≡ (bit scope x && not (same? (c .actor) x))) → u ⊆ scope → (s ⊆ w) ↔ WithinScope scope c
+within-is scope c u s w formed hu hs hw p = (
+  λ q. record {
+    inside = λ x e. p x (hu x ∙ e);
+    strict = λ x e.
+        let m = sym (hw x) ∙ q x (hs x ∙ e) in (
+          and-left (bit scope x) (not (same? (c .actor) x)) m,
+          λ k. false-no (sym (same-is (c .actor) x (actor-lt c formed)) ∙ not-true _ (and-right (bit scope x) (not (same? (c .actor) x)) m)) (eq-eqb x (c .actor) (sym k)),
+        );
+  },
+  λ r x e.
+      let m = r .strict x (sym (hs x) ∙ e) in
+      hw x ∙ and-both (bit scope x) (not (same? (c .actor) x)) (m .0) (ap not (not-so (same? (c .actor) x) (λ k. m .1 (sym (same-eq (c .actor) x k))))),
+)
+
+-- ---- rows 4 and 5
+
+module _ (c : Command) (linked live : Bool) where
+  pub standing-1 : c .code ≡ 1 → live ≡ ((eqb (c .code) 1 && live) || (eqb (c .code) 3 && linked))
+  standing-1 e = rw e (sym (or-false live))
+
+  pub standing-3 : c .code ≡ 3 → linked ≡ ((eqb (c .code) 1 && live) || (eqb (c .code) 3 && linked))
+  standing-3 e = rw e
+
+  pub standing-else : c .code ≢ 1 → c .code ≢ 3 → false ≡ ((eqb (c .code) 1 && live) || (eqb (c .code) 3 && linked))
+  standing-else n1 n3 = rw (ne-eqb (c .code) 1 n1, ne-eqb (c .code) 3 n3)
+
+-- ---- the rows as the table says them
+
+module _ (b : Board) (c : Command) where
+  pub missing-row : {r : Bool} → (r ≡ true) ↔ ((x : ℕ) × (needed c x ≡ true) × (bit (b .live) x ≡ false)) → (r ≡ true) ↔ Missing b c
+  missing-row h = Iff·trans h (λ w. record { who = w .0; is-needed = w .1; absent = w .2 }, λ m. (m .who, m .is-needed, m .absent))
+
+  pub edge-row : {linked : Bool} → linked ≡ (bit (row (b .i) (c .role)) (c .junior) || bit (row (b .a) (c .role)) (c .junior)) → (linked ≡ true) ↔ (edgeKind b c ≢ 0)
+  edge-row h =
+      let e = edge-entry (tablesOf b) (c .role) (c .junior) in
+      let i = bit (row (b .i) (c .role)) (c .junior) in
+      let a = bit (row (b .a) (c .role)) (c .junior) in
+      (λ t. e .1 (or-cases i a (sym h ∙ t)), λ n. h ∙ ⊎-elim (or-left i a) (or-right i a) (e .0 n))
+
+  module _ {linked : Bool} (is : (linked ≡ true) ↔ (edgeKind b c ≢ 0)) where
+    pub standing-row : {r : Bool} → r ≡ ((eqb (c .code) 1 && bit (b .live) (c .role)) || (eqb (c .code) 3 && linked)) → (r ≡ true) ↔ Standing b c
+    standing-row h = same-test h (Iff·trans (or-is (and-is (eq-is (c .code) 1) (λ _. Iff·rfl)) (and-is (eq-is (c .code) 3) (λ _. is))) (
+      ⊎-elim (λ w. role (w .0) (w .1)) (λ w. edge (w .0) (w .1)),
+      rows,
+    ))
+      where
+        rows : Standing b c → ((c .code ≡ 1) × (c .role ∈ b .live)) ⊎ ((c .code ≡ 3) × (edgeKind b c ≢ 0))
+        rows (role e m) = inl (e, m)
+        rows (edge e n) = inr (e, n)
+
+    pub no-edge-row : {r : Bool} → r ≡ (leb 4 (c .code) && not linked) → (r ≡ true) ↔ NoEdge b c
+    no-edge-row h = same-test h (Iff·trans (and-is (leb-true 4 (c .code), le-leb 4 (c .code)) (λ _. not-is is)) (
+      λ w. record { names = w .0; none = stable (ℕ-discrete (edgeKind b c) 0) (w .1) },
+      λ n. (n .names, λ k. k (n .none)),
+    ))
+
+  pub scope-row : {scope : ℕ} → ((x : ℕ) → (x ∈ scope) ↔ Scope (tablesOf b) (c .actor) x) → WithinScope scope c ↔ InScope b c
+  scope-row h = (
+    λ w. record { scope = λ x e. h x .0 (w .inside x e); strict = λ x e. let m = w .strict x e in record { scope = h x .0 (m .0); strict = m .1 } },
+    λ s. record { inside = λ x e. h x .1 (s .scope x e); strict = λ x e. let m = s .strict x e in (h x .1 (m .scope), m .strict) },
+  )
+
+  pub outside-row : {down up : List ℕ} → AreViews (tablesOf b) down up → OutsideBy down up c ↔ Outside b c
+  outside-row v = (λ o. record { adds = o .adds; outside = λ a. o .outside (admin-by v .1 a) }, λ o. record { adds = o .adds; outside = λ a. o .outside (admin-by v .0 a) })
+
+-- ---- the first half of the table
+
+pub refused-1 : (b : Board) (c : Command) → (Sound (tablesOf b) → ⊥) → First (before b c) 1
+refused-1 b c n = hit _ _ _ n
+
+module _ (b : Board) (c : Command) (sound : Sound (tablesOf b)) where
+  past-1 : (n : ℕ) (rest : List (ℕ × Type 0)) → First rest n → First ((1, (Sound (tablesOf b) → ⊥)) ∷ rest) n
+  past-1 n rest f = pass _ _ rest _ (λ k. k sound) f
+
+  pub refused-2 : Malformed c → First (before b c) 2
+  refused-2 m = past-1 _ _ (hit _ _ _ m)
+
+  module _ (formed : Malformed c → ⊥) where
+    pub refused-3 : Missing b c → First (before b c) 3
+    refused-3 m = past-1 _ _ (pass _ _ _ _ formed (hit _ _ _ m))
+
+    module _ (present : Missing b c → ⊥) where
+      pub refused-4 : Standing b c → First (before b c) 4
+      refused-4 s = past-1 _ _ (pass _ _ _ _ formed (pass _ _ _ _ present (hit _ _ _ s)))
+
+      module _ (free : Standing b c → ⊥) where
+        pub refused-5 : NoEdge b c → First (before b c) 5
+        refused-5 n = past-1 _ _ (pass _ _ _ _ formed (pass _ _ _ _ present (pass _ _ _ _ free (hit _ _ _ n))))
+
+        module _ (there : NoEdge b c → ⊥) where
+          past-5 : (n : ℕ) (rest : List (ℕ × Type 0)) → First rest n
+              → First ((1, (Sound (tablesOf b) → ⊥)) ∷ (2, Malformed c) ∷ (3, Missing b c) ∷ (4, Standing b c) ∷ (5, NoEdge b c) ∷ rest) n
+          past-5 n rest f = past-1 _ _ (pass _ _ _ _ formed (pass _ _ _ _ present (pass _ _ _ _ free (pass _ _ rest _ there f))))
+
+          pub refused-6 : (InScope b c → ⊥) → First (before b c) 6
+          refused-6 n = past-5 _ _ (hit _ _ _ n)
+
+          pub refused-not : InScope b c → First (before b c) 0
+          refused-not s = past-5 _ _ (pass _ _ _ _ (λ k. k s) none)
+
+-- ---- the two halves in a row
+
+module _ (b : Board) (c : Command) where
+  pub decided-early : (n : ℕ) → n ≢ 0 → First (before b c) n → Decided b c n b
+  decided-early n h f = record { numbered = first-refused (before b c) _ n h f; done = λ z. absurd (h z); refused = λ _. refl }
+
+  module _ (m : ℕ) (early : m ≡ 0) (passed : First (before b c) m) (next : Board) (is : next ≡ after b c) where
+    late : (n : ℕ) → First (afterwards next c) n → First (refusals b c) n
+    late n f =
+        first-next (before b c) (afterwards (after b c) c) n (first-done (before b c) refl (subst (First (before b c)) early passed))
+        (subst (λ (k : Board). First (afterwards k c) n) is f)
+
+    pub decided-late : (n : ℕ) → n ≢ 0 → First (afterwards next c) n → Decided b c n b
+    decided-late n h f = record { numbered = late n f; done = λ z. absurd (h z); refused = λ _. refl }
+
+    pub decided-done : (n : ℕ) → n ≡ 0 → First (afterwards next c) n → Decided b c 0 next
+    decided-done n z f = record { numbered = subst (First (refusals b c)) z (late n f); done = λ _. is; refused = λ h. absurd (h refl) }

@@ -1,0 +1,55 @@
+-- The column "Effect" of document 01's table of commands, member by member. What no line names stays as it was.
+use mathlib.Core.Bool.{Bool, true, false, cond, not, _&&_, _||_}
+use mathlib.Core.List.{List, [], _∷_}
+use Prim.Native.Nat.{ℕ, zero, suc}
+use lib.Dec.{eqb}
+use Rattle.sets.specs.Sets.{bit, setOf}
+use Rattle.hierarchy.specs.Tables.{row}
+use Rattle.board.specs.declared.Board.{Board}
+use Rattle.board.specs.declared.Command.{Command}
+
+-- which parts a kind has: 1 is I, 2 is A, 3 is both
+abbrev pub hasI : ℕ → Bool
+hasI k = eqb k 1 || eqb k 3
+
+abbrev pub hasA : ℕ → Bool
+hasA k = eqb k 2 || eqb k 3
+
+-- whether x lives afterwards, by whether it lived: command 1 adds its role, command 2 removes it
+unfoldable pub lives : Command → Bool → ℕ → Bool
+lives c old x =
+    cond (eqb (c .code) 1) (old || eqb x (c .role))
+    (cond (eqb (c .code) 2) (old && not (eqb x (c .role)))
+    old)
+
+-- whether x and y are the senior and the junior that the command names
+abbrev pub pair : Command → ℕ → ℕ → Bool
+pair c x y = eqb x (c .role) && eqb y (c .junior)
+
+-- Whether one table has the entry of senior x and junior y afterwards, by whether it had it. It is one rule for both tables:
+-- `seniors` and `juniors` are the sets that command 1 names for this table, `part` whether the named kind has this table's part.
+unfoldable pub entry : Command → ℕ → ℕ → Bool → Bool → ℕ → ℕ → Bool
+entry c seniors juniors part old x y =
+    cond (eqb (c .code) 1) (old || ((eqb y (c .role) && bit seniors x) || (eqb x (c .role) && bit juniors y)))
+    (cond (eqb (c .code) 2) (old && not (eqb x (c .role) || eqb y (c .role)))
+    (cond (eqb (c .code) 3) (old || (pair c x y && part))
+    (cond (eqb (c .code) 4) (old && not (pair c x y))
+    (cond (eqb (c .code) 5) (cond (pair c x y) part old)
+    old))))
+
+-- f 0, f 1, .. up to n of them
+unfoldable pub listOf : ℕ → (ℕ → ℕ) → List ℕ
+listOf zero f = []
+listOf (suc n) f = f 0 ∷ listOf n (λ k. f (suc k))
+
+-- a whole table afterwards
+unfoldable pub tableAfter : Command → ℕ → ℕ → Bool → List ℕ → List ℕ
+tableAfter c seniors juniors part t = listOf 64 (λ x. setOf (λ y. entry c seniors juniors part (bit (row t x) y) x y))
+
+-- the board afterwards
+unfoldable pub after : Board → Command → Board
+after b c = record {
+  live = setOf (λ x. lives c (bit (b .live) x) x);
+  i = tableAfter c (c .«i_seniors») (c .«i_juniors») (hasI (c .kind)) (b .i);
+  a = tableAfter c (c .«a_seniors») (c .«a_juniors») (hasA (c .kind)) (b .a);
+}

@@ -1,0 +1,236 @@
+// The five commands. `step` decides one: it tries the refusals of document 01 in their order, first on the board it is handed, then
+// on the board the command would leave, and gives back the number and the board, changed where the number is 0.
+ghost use mathlib.Core.Path.{_≡_};
+ghost use mathlib.Core.Bool.{true, false, not, _&&_, _||_};
+ghost use mathlib.Core.Logic.{_↔_};
+ghost use Prim.Native.Nat.{ℕ};
+ghost use lib.Dec.{eqb, leb};
+ghost use Rattle.sets.specs.Sets.{bit};
+ghost use Rattle.hierarchy.specs.First.{First};
+ghost use Rattle.hierarchy.specs.Tables.{row};
+ghost use Rattle.board.specs.Looks.{Seen, WithinScope, OutsideBy};
+ghost use Rattle.board.specs.Commands.{Malformed, needed, scoped, strictly, before, afterwards, Decided};
+use crate::Board;
+use crate::Command;
+use crate::effects::after;
+use crate::looks::Look;
+use crate::looks::look_at;
+use crate::tables::row_of;
+use hierarchy::loops::loops;
+use hierarchy::scopes::administrators;
+use hierarchy::scopes::managed;
+use hierarchy::scopes::scope;
+use hierarchy::views::Views;
+use hierarchy::views::work_out;
+use sets::has;
+use sets::minus;
+use sets::single;
+use sets::union;
+use sets::with;
+use sets::within;
+use sets::without;
+
+// The number, 0 for done, and the board afterwards.
+pub struct Outcome {
+    pub number: u8,
+    pub board: Board,
+}
+
+// 2: a number out of its range, in a field that the command uses.
+fn malformed(c: Command) -> bool
+    ensures { λ r. ⌜ (r ≡ true) ↔ Malformed c ⌝ }
+{
+    let code = c.code;
+    if code < 1 {
+        return true;
+    }
+    if code > 5 {
+        return true;
+    }
+    if c.actor > 63 {
+        return true;
+    }
+    if c.role > 63 {
+        return true;
+    }
+    if code < 3 {
+        return false;
+    }
+    if c.junior > 63 {
+        return true;
+    }
+    if code == 4 {
+        return false;
+    }
+    if c.kind < 1 {
+        return true;
+    }
+    c.kind > 3
+}
+
+// Who must be in the actor's scope: command 1's seniors, the two ends of an edge.
+fn in_scope(c: Command) -> u64
+    requires { ⌜ (Malformed c → ⊥) ⌝ }
+    ensures { λ r. ⌜ ((x : ℕ) → bit r x ≡ scoped c x) ⌝ }
+{
+    if c.code == 1 {
+        return union(c.a_seniors, c.i_seniors);
+    }
+    if c.code == 2 {
+        return 0;
+    }
+    with(single(c.role as usize), c.junior as usize)
+}
+
+// Who must be in its strict scope: command 1's juniors, command 2's role.
+fn in_strict(c: Command) -> u64
+    requires { ⌜ (Malformed c → ⊥) ⌝ }
+    ensures { λ r. ⌜ ((x : ℕ) → bit r x ≡ strictly c x) ⌝ }
+{
+    if c.code == 1 {
+        return union(c.a_juniors, c.i_juniors);
+    }
+    if c.code == 2 {
+        return single(c.role as usize);
+    }
+    0
+}
+
+// 3: the actor, or a role that must exist, isn't live. Those whose scope is asked for, and the actor, are all that must exist.
+fn missing(live: u64, c: Command) -> bool
+    requires { ⌜ (Malformed c → ⊥) ⌝ }
+    ensures { λ r. ⌜ (r ≡ true) ↔ ((x : ℕ) × (needed c x ≡ true) × (bit live x ≡ false)) ⌝ }
+{
+    let named = union(in_scope(c), in_strict(c));
+    minus(with(named, c.actor as usize), live) != 0
+}
+
+// Whether the edge of the command stands, in any kind.
+fn linked(b: Board, c: Command) -> bool
+    ensures { λ r. ⌜ r ≡ (bit (row (b .i) (c .role)) (c .junior) || bit (row (b .a) (c .role)) (c .junior)) ⌝ }
+{
+    let i = b.i;
+    let a = b.a;
+    let senior = c.role as usize;
+    let both = union(row_of(i, senior), row_of(a, senior));
+    has(both, c.junior as usize)
+}
+
+// 4: the new role is live, or the edge to be added stands.
+fn standing(live: u64, c: Command, edge: bool) -> bool
+    ensures { λ r. ⌜ r ≡ ((eqb (c .code) 1 && bit live (c .role)) || (eqb (c .code) 3 && edge)) ⌝ }
+{
+    if c.code == 1 {
+        return has(live, c.role as usize);
+    }
+    if c.code == 3 {
+        return edge;
+    }
+    false
+}
+
+// 5: there is no edge to remove or change.
+fn no_edge(c: Command, edge: bool) -> bool
+    ensures { λ r. ⌜ r ≡ (leb 4 (c .code) && not edge) ⌝ }
+{
+    if c.code < 4 {
+        return false;
+    }
+    !edge
+}
+
+// Not 6: all are in the actor's scope that must be, `scope` being that.
+fn within_scope(scope: u64, c: Command) -> bool
+    requires { ⌜ (Malformed c → ⊥) ⌝ }
+    ensures { λ r. ⌜ (r ≡ true) ↔ WithinScope scope c ⌝ }
+{
+    if !within(in_scope(c), scope) {
+        return false;
+    }
+    within(in_strict(c), without(scope, c.actor as usize))
+}
+
+// 8: the new role is outside the actor's strict scope.
+fn outside(v: Views, c: Command) -> bool
+    ensures { λ r. ⌜ (r ≡ true) ↔ OutsideBy (v .down) (v .up) c ⌝ }
+{
+    if c.code == 1 {
+        return !has(administrators(v, c.role as usize), c.actor as usize);
+    }
+    false
+}
+
+// The refusals on the board handed in.
+fn refused_before(b: Board, c: Command, k: Look) -> u8
+    requires { ⌜ Seen b (k .sound) (k .views .down) (k .views .up) ⌝ }
+    ensures { λ r. ⌜ First (before b c) r ⌝ }
+{
+    let live = b.live;
+    if !k.sound {
+        return 1;
+    }
+    if malformed(c) {
+        return 2;
+    }
+    if missing(live, c) {
+        return 3;
+    }
+    let edge = linked(b, c);
+    if standing(live, c, edge) {
+        return 4;
+    }
+    if no_edge(c, edge) {
+        return 5;
+    }
+    let views = k.views;
+    if within_scope(scope(views, c.actor as usize), c) {
+        return 0;
+    }
+    6
+}
+
+// The refusals on the board that the command would leave.
+fn refused_after(b: Board, c: Command) -> u8
+    ensures { λ r. ⌜ First (afterwards b c) r ⌝ }
+{
+    let live = b.live;
+    let i = b.i;
+    let a = b.a;
+    if loops(i, a) {
+        return 7;
+    }
+    let views = work_out(live, i, a);
+    if outside(views, c) {
+        return 8;
+    }
+    if managed(live, views) {
+        return 0;
+    }
+    9
+}
+
+// One command on a board.
+pub fn step(b: Board, c: Command) -> Outcome
+    ensures { λ r. ⌜ Decided b c (r .number) (r .board) ⌝ }
+{
+    let k = look_at(b);
+    let early = refused_before(b, c, k);
+    if early != 0 {
+        return Outcome {
+            number: early,
+            board: b,
+        };
+    }
+    let next = after(b, c);
+    let late = refused_after(next, c);
+    if late != 0 {
+        return Outcome {
+            number: late,
+            board: b,
+        };
+    }
+    Outcome {
+        number: 0,
+        board: next,
+    }
+}

@@ -1,0 +1,53 @@
+// The cooperative's board: its roles and edges, the five commands that change it and the four questions about it.
+//
+// A command is one call, `step`: it checks the board it is handed, decides, and gives back the number and the board, changed where
+// the number is 0 and as it was where it is not. Nobody has to test anything before.
+ghost use mathlib.Core.Path.{_≡_};
+ghost use Rattle.board.specs.Boards.{foundingBoard};
+
+pub mod checks;
+pub mod commands;
+pub mod effects;
+mod looks;
+pub mod questions;
+mod tables;
+
+// `live` is the set of the live roles. Row x of `i` is the set of the juniors that role x has by I, row x of `a` of those by A; an
+// IA edge is in both.
+#[repr(C)]
+pub struct Board {
+    pub live: u64,
+    pub i: [u64; Board::ROLES],
+    pub a: [u64; Board::ROLES],
+}
+
+impl Board {
+    pub const ROLES: usize = 64;
+
+    pub const EDGES: usize = 2016;
+    // the bytes of the longest board file: a byte a role, three an edge, and the trailer's six
+    pub const FILE: usize = Board::ROLES + 3 * Board::EDGES + 6;
+
+    // Role 0 lives, and there is no edge.
+    pub fn founding() -> Self
+        ensures { λ r. ⌜ r ≡ foundingBoard ⌝ }
+    {
+        let i = [0u64; Board::ROLES];
+        let a = [0u64; Board::ROLES];
+        Board { live: 1, i, a }
+    }
+}
+
+// What a coordinator asks for. `role` is the role of commands 1 and 2, and the senior of 3, 4 and 5. A field that a command
+// doesn't use may hold anything.
+pub struct Command {
+    pub code: u8,
+    pub actor: u8,
+    pub role: u8,
+    pub junior: u8,
+    pub kind: u8,
+    pub a_seniors: u64,
+    pub i_seniors: u64,
+    pub a_juniors: u64,
+    pub i_juniors: u64,
+}
