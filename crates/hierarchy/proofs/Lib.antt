@@ -13,4 +13,5 @@ pub mod Walk
 pub mod Rows
 pub mod Sift
 pub mod Managing
+pub mod Spreads
 pub mod Peel

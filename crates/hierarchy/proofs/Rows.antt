@@ -1,21 +1,20 @@
 -- Tables that a loop fills, row by row or member by member. Assumes nothing.
 use mathlib.Core.Path.{_≡_, refl, sym, ap, ap₂, _∙_, subst}
 use mathlib.Core.Bool.{Bool, true, false, not, _&&_, _||_, and-true, and-false, or-false, and-not-self}
-use mathlib.Core.Logic.{_⊎_, ⊎-elim, _↔_, _≢_, dite}
+use mathlib.Core.Logic.{_⊎_, ⊎-elim, _≢_, dite}
 use mathlib.Core.List.{List}
 use Prim.Native.Nat.{ℕ, zero, suc, _<_}
 use native.Mathlib.Decide.{ℕ-discrete}
 use lib.ListN.{set, length, length-set, replicate}
 use lib.Seq.{getD-set-same, getD-set-other}
 use Rattle.sets.specs.Sets.{bit, _∈_, _⊆_, same?, NoRole}
-use Rattle.sets.proofs.Bools.{and-left, and-right, and-both, false-no, not-so}
+use Rattle.sets.proofs.Bools.{and-left, and-right, and-both, not-so}
 use Rattle.sets.proofs.Digits.{bit-zero}
 use Rattle.sets.proofs.Laws.{same-eq, same-self}
 use Rattle.sets.proofs.Members.{Taken, taken-part, taken-cases}
-use Rattle.hierarchy.specs.Tables.{Tables, tables, row}
-use Rattle.hierarchy.specs.Words.{Derives, Chain}
-use Rattle.hierarchy.specs.Views.{Led, IsDown, IsUp, Marked, AreViews}
-use Rattle.hierarchy.proofs.Derive.{derives↔descends}
+use Rattle.hierarchy.specs.Tables.{Tables, row}
+use Rattle.hierarchy.specs.Views.{AreViews}
+use Rattle.hierarchy.specs.Engine.{IsDown, IsUp, Marked}
 
 -- a row of the blank table has no member
 pub blank-row : (n x : ℕ) → row (replicate n 0) x ≡ 0
@@ -27,34 +26,6 @@ pub row-set : (t : List ℕ) (x v y : ℕ) → x < length t → (P : ℕ → Typ
 row-set t x v y l P same other = dite (ℕ-discrete y x)
     (λ e. subst P (sym (ap (λ (k : ℕ). row (set t x v) k) e ∙ getD-set-same t x v 0 l)) (same e))
     (λ n. subst P (sym (getD-set-other t x y v 0 n)) (other n))
-
--- ---- what x derives, from two closures
-
--- one is {x}, mid what leads from it by A, all what leads from mid by I, and s the live ones of these
-pub derived-is : {live x one mid : ℕ} {i a : List ℕ} (all s : ℕ)
-    → x < 64 → x ∈ live
-    → ((y : ℕ) → bit one y ≡ same? x y)
-    → ((y : ℕ) → (y ∈ mid) ↔ Led a one y)
-    → ((y : ℕ) → (y ∈ all) ↔ Led i mid y)
-    → ((y : ℕ) → bit s y ≡ (bit all y && bit live y))
-    → (y : ℕ) → (y ∈ s) ↔ Derives (tables live i a) x y
-derived-is {live} {x} {one} {mid} {i} {a} all s l here h₁ h₂ h₃ h₄ y = (
-  λ e.
-      let q = h₃ y .0 (and-left (bit all y) (bit live y) (sym (h₄ y) ∙ e)) in
-      let p = h₂ (q .start) .0 (q .member) in
-      derives↔descends .1 (record {
-        from = here;
-        to = and-right (bit all y) (bit live y) (sym (h₄ y) ∙ e);
-        mid = q .start;
-        down-a = subst (λ (n : ℕ). Chain a n (q .start)) (same-eq x (p .start) (sym (h₁ (p .start)) ∙ p .member)) (p .chain);
-        down-i = q .chain;
-      }),
-  λ d.
-      let s = derives↔descends .0 d in
-      h₄ y ∙ and-both (bit all y) (bit live y)
-      (h₃ y .1 (record { start = s .mid; member = h₂ (s .mid) .1 (record { start = x; member = h₁ x ∙ same-self x l; chain = s .down-a }); chain = s .down-i }))
-      (s .to),
-)
 
 -- ---- a loop over the live roles that fills a row for each
 
@@ -75,10 +46,6 @@ filled-turn {P} {x = x} {t = t} v turn inv h = record {
       (λ q. subst (λ (n : ℕ). P n v) (sym q) h)
       (λ n. inv .settled y (⊎-elim (λ f. f) (λ q. absurd (n q)) (taken-cases turn y e)));
 }
-
--- the rows of roles that aren't live are right while nothing is in them
-pub down-start : (live : ℕ) (i a : List ℕ) → Filled (λ x v. (y : ℕ) → (y ∈ v) ↔ Derives (tables live i a) x y) live (replicate 64 0) live
-down-start live i a = filled-start _ live (λ x e y. (λ m. absurd (false-no (bit-zero y) m), λ d. absurd (false-no e (d .from))))
 
 -- ---- a role goes into many rows
 

@@ -4,3 +4,4 @@ pub mod Words
 pub mod First
 pub mod Compute
 pub mod Views
+pub mod Engine

@@ -1,12 +1,9 @@
 -- The two tables that are worked out once a board and handed on: row x of `down` is the set of what x derives, row y of `up` the
 -- set of what derives y. The words of scope again, read off such tables; `Rattle.hierarchy.proofs.ViewLaws` says that they are the same.
-use mathlib.Core.Path.{_≡_}
 use mathlib.Core.Logic.{_≢_, _⊎_, _↔_}
 use mathlib.Core.List.{List}
 use Prim.Native.Nat.{ℕ, suc, _≤_, _<_}
-use mathlib.Core.Bool.{_&&_, _||_}
-use lib.ListN.{length}
-use Rattle.sets.specs.Sets.{bit, same?, _∈_}
+use Rattle.sets.specs.Sets.{_∈_}
 use Rattle.sets.specs.declared.Pick.{Pick}
 use Rattle.sets.specs.declared.Pick.the-variants.{Role, Nobody}
 use Rattle.hierarchy.specs.declared.scopes.Climbed.{Climbed}
@@ -20,28 +17,9 @@ pub record Led (rows : List ℕ) (s y : ℕ) : Type 0 where
   pub member : start ∈ s
   pub chain : Chain rows start y
 
--- y is a junior, by an edge of any kind, of a role of s
-pub record JuniorOf (i a : List ℕ) (s y : ℕ) : Type 0 where
-  pub senior : ℕ
-  pub member : senior ∈ s
-  pub edge : (y ∈ row i senior) ⊎ (y ∈ row a senior)
-
--- each row of down is what its role derives
-abbrev pub IsDown : Tables → List ℕ → Type 0
-IsDown t down = (x y : ℕ) → (y ∈ row down x) ↔ Derives t x y
-
--- up is the part of down that starts at live roles, turned round
-abbrev pub IsUp : ℕ → List ℕ → List ℕ → Type 0
-IsUp live down up = (x y : ℕ) → (x ∈ row up y) ↔ ((x ∈ live) × (y ∈ row down x))
-
--- x has gone into the row of each role of s
-pub record Marked (up : List ℕ) (s x : ℕ) (marked : List ℕ) : Type 0 where
-  pub rows : length marked ≡ 64
-  pub members : (y z : ℕ) → bit (row marked y) z ≡ (bit (row up y) z || (bit s y && same? x z))
-
 -- down and up are the views of t
 pub record AreViews (t : Tables) (down up : List ℕ) : Type 0 where
-  pub down-is : IsDown t down
+  pub down-is : (x y : ℕ) → (y ∈ row down x) ↔ Derives t x y
   pub up-is : (x y : ℕ) → (x ∈ row up y) ↔ Derives t x y
 
 -- r is in the scope of a

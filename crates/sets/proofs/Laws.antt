@@ -1,17 +1,17 @@
 -- The laws of sets of roles: what callers cite. Assumes nothing.
-use mathlib.Core.Path.{_≡_, refl, sym, ap, _∙_}
+use mathlib.Core.Path.{_≡_, refl, sym, ap, _∙_, subst}
 use mathlib.Core.Bool.{Bool, true, false, not, _&&_, _||_, and-true, and-false}
 use mathlib.Core.Logic.{_⊎_, ⊎-elim, _↔_}
 use Prim.Native.Nat.{ℕ, zero, suc, _-_, _*_, _/_, _%_, _^_, _≤_, _<_, zero-le, suc-le-suc}
-use native.Mathlib.Nat.{mod-lt, mod-eq-of-lt, one-mul, le-refl, le-antisymm}
+use native.Mathlib.Nat.{mod-lt, mod-eq-of-lt, one-mul, le-refl, le-antisymm, le-of-suc-le-suc, pow-suc, mul-comm, div-lt-iff-lt-mul, le-div-iff-mul-le}
 use native.Mathlib.Omega.{arith}
 use lib.Dec.{eqb, ltb, lit<}
 use lib.Arith.{bin-ind}
-use lib.Pow.{pow-lt}
+use lib.Pow.{pow-lt, pow-pos}
 use lib.Bits.{and-mask, bitAnd, bitOr, or-lt}
-use lib.Count.{ones, ones-step, trailingZeros, under}
+use lib.Count.{ones, ones-step, trailingZeros, under, leadingZeros, leading-top}
 use borrow.Author.Tests.{lt-ltb, le-ltb, eqb-true, eq-eqb}
-use Rattle.sets.specs.Sets.{bit, _∈_, _⊆_, part?, same?, num, setOf, Lowest}
+use Rattle.sets.specs.Sets.{bit, _∈_, _⊆_, part?, same?, num, setOf, Lowest, HighestRole, Highest}
 use Rattle.sets.specs.declared.Pick.{Pick}
 use Rattle.sets.specs.declared.Pick.the-variants.{Role, Nobody}
 use Rattle.sets.proofs.Bools.{true-or-false, or-left, and-left, and-both, lt-or-ge, false-no, not-so, iff-same}
@@ -127,6 +127,32 @@ lowest-unique s (Role m) (Role n) h g = ap Role (le-antisymm (h .least n (g .mem
 lowest-unique s (Role m) Nobody h g = absurd (false-no (g .none m) (h .member))
 lowest-unique s Nobody (Role n) h g = absurd (false-no (h .none n) (g .member))
 lowest-unique s Nobody Nobody h g = refl
+
+-- ---- the highest role
+
+pub highest-unique : (s : ℕ) (p q : Pick) → Highest s p → Highest s q → p ≡ q
+highest-unique s (Role m) (Role n) h g = ap Role (le-antisymm (g .most m (h .member)) (h .most n (g .member)))
+highest-unique s (Role m) Nobody h g = absurd (false-no (g .none m) (h .member))
+highest-unique s Nobody (Role n) h g = absurd (false-no (h .none n) (g .member))
+highest-unique s Nobody Nobody h g = refl
+
+-- a number between 2 ^ r and 2 ^ (r + 1) has digit r, and none above
+bit-top : (s r : ℕ) → 2 ^ r ≤ s → s < 2 ^ suc r → r ∈ s
+unfolding bit
+bit-top s r l h = ap (λ (n : ℕ). eqb (n % 2) 1) (le-antisymm (lt-succ (div-lt-iff-lt-mul (pow-pos r) .1 (subst (λ (n : ℕ). s < n) (pow-suc 2 r ∙ mul-comm (2 ^ r) 2) h))) (le-div-iff-mul-le (pow-pos r) .1 (subst (λ (n : ℕ). n ≤ s) (sym (one-mul (2 ^ r))) l)))
+  where
+    lt-succ : {m : ℕ} → m < 2 → m ≤ 1
+    lt-succ g = le-of-suc-le-suc g
+
+pub highest-is : (s : ℕ) → 0 < s → s < 2 ^ 64 → HighestRole s (63 - leadingZeros 64 s)
+highest-is s p h =
+    let t = leading-top 64 s p h in
+    let e : 63 - leadingZeros 64 s ≡ t .0 = omega (arith, t .1) in
+    subst (HighestRole s) (sym e) (record {
+      role = omega (arith, t .1);
+      member = bit-top s (t .0) (t .2) (t .3);
+      most = λ x m. le-of-suc-le-suc (bit-lt (suc (t .0)) (t .3) m);
+    })
 
 -- ---- the set of what a test says
 

@@ -4,37 +4,59 @@ use mathlib.Core.Bool.{Bool, false, not, _&&_, and-true}
 use mathlib.Core.Logic.{_⊎_, inl, inr, ⊎-elim}
 use Prim.Native.Nat.{ℕ, _<_}
 use lib.Count.{ones}
-use Rattle.sets.specs.Sets.{bit, _∈_, _⊆_, same?, LowestRole, NoRole, Lowest}
+use Rattle.sets.specs.Sets.{bit, _∈_, _⊆_, same?, LowestRole, NoRole, Lowest, HighestRole, Highest}
 use Rattle.sets.specs.declared.Pick.{Pick}
 use Rattle.sets.specs.declared.Pick.the-variants.{Role, Nobody}
 use Rattle.sets.proofs.Bools.{true-or-false, and-left, and-both}
 use Rattle.sets.proofs.Laws.{same-eq, ones-less}
 
--- one turn: x, the lowest role of rest, goes
-pub record Taken (rest x rest′ : ℕ) : Type 0 where
-  pub lowest : LowestRole rest x
+-- one turn: the role x of rest goes
+pub record Drawn (rest x rest′ : ℕ) : Type 0 where
+  pub role : x < 64
+  pub member : x ∈ rest
   pub rest-is : (y : ℕ) → bit rest′ y ≡ (bit rest y && not (same? x y))
 
-module _ {rest x rest′ : ℕ} (t : Taken rest x rest′) where
-  pub taken-less : ones rest′ < ones rest
-  taken-less = ones-less rest rest′ x (t .lowest .role) (t .lowest .member) (t .rest-is)
+module _ {rest x rest′ : ℕ} (t : Drawn rest x rest′) where
+  pub drawn-less : ones rest′ < ones rest
+  drawn-less = ones-less rest rest′ x (t .role) (t .member) (t .rest-is)
 
-  pub taken-part : rest′ ⊆ rest
-  taken-part y e = and-left (bit rest y) (not (same? x y)) (sym (t .rest-is y) ∙ e)
+  pub drawn-part : rest′ ⊆ rest
+  drawn-part y e = and-left (bit rest y) (not (same? x y)) (sym (t .rest-is y) ∙ e)
 
   -- what is left out of rest′ was left out of rest, or is x
-  pub taken-cases : (y : ℕ) → bit rest′ y ≡ false → (bit rest y ≡ false) ⊎ (y ≡ x)
-  taken-cases y e = ⊎-elim
+  pub drawn-cases : (y : ℕ) → bit rest′ y ≡ false → (bit rest y ≡ false) ⊎ (y ≡ x)
+  drawn-cases y e = ⊎-elim
       (λ s. inr (same-eq x y s))
       (λ n. inl (sym (t .rest-is y ∙ ap (λ (p : Bool). bit rest y && not p) n ∙ and-true (bit rest y)) ∙ e))
       (true-or-false (same? x y))
 
   -- what was in rest is in rest′, or is x
-  pub taken-kept : (y : ℕ) → y ∈ rest → (y ∈ rest′) ⊎ (y ≡ x)
-  taken-kept y e = ⊎-elim
+  pub drawn-kept : (y : ℕ) → y ∈ rest → (y ∈ rest′) ⊎ (y ≡ x)
+  drawn-kept y e = ⊎-elim
       (λ s. inr (same-eq x y s))
       (λ n. inl (t .rest-is y ∙ and-both (bit rest y) (not (same? x y)) e (ap not n)))
       (true-or-false (same? x y))
+
+-- the same where x is the lowest role of rest
+pub record Taken (rest x rest′ : ℕ) : Type 0 where
+  pub lowest : LowestRole rest x
+  pub rest-is : (y : ℕ) → bit rest′ y ≡ (bit rest y && not (same? x y))
+
+module _ {rest x rest′ : ℕ} (t : Taken rest x rest′) where
+  pub drawn : Drawn rest x rest′
+  drawn = record { role = t .lowest .role; member = t .lowest .member; rest-is = t .rest-is }
+
+  pub taken-less : ones rest′ < ones rest
+  taken-less = drawn-less drawn
+
+  pub taken-part : rest′ ⊆ rest
+  taken-part = drawn-part drawn
+
+  pub taken-cases : (y : ℕ) → bit rest′ y ≡ false → (bit rest y ≡ false) ⊎ (y ≡ x)
+  taken-cases = drawn-cases drawn
+
+  pub taken-kept : (y : ℕ) → y ∈ rest → (y ∈ rest′) ⊎ (y ≡ x)
+  taken-kept = drawn-kept drawn
 
 -- what the answer of `lowest` says, by its two cases
 pub picked : {s r : ℕ} {p : Pick} → p ≡ Role r → Lowest s p → LowestRole s r
@@ -42,3 +64,10 @@ picked {s} e l = subst (Lowest s) e l
 
 pub nobody : {s : ℕ} {p : Pick} → p ≡ Nobody → Lowest s p → NoRole s
 nobody {s} e l = subst (Lowest s) e l
+
+-- and of `highest`
+pub topmost : {s r : ℕ} {p : Pick} → p ≡ Role r → Highest s p → HighestRole s r
+topmost {s} e l = subst (Highest s) e l
+
+pub no-top : {s : ℕ} {p : Pick} → p ≡ Nobody → Highest s p → NoRole s
+no-top {s} e l = subst (Highest s) e l

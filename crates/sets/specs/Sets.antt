@@ -54,3 +54,14 @@ pub record NoRole (s : ℕ) : Type 0 where
 abbrev pub Lowest : ℕ → Pick → Type 0
 Lowest s (Role r) = LowestRole s r
 Lowest s Nobody = NoRole s
+
+-- r is the highest role of s
+pub record HighestRole (s r : ℕ) : Type 0 where
+  pub role : r < 64
+  pub member : r ∈ s
+  pub most : (x : ℕ) → x ∈ s → x ≤ r
+
+-- the highest role of s, or nobody where s has none
+abbrev pub Highest : ℕ → Pick → Type 0
+Highest s (Role r) = HighestRole s r
+Highest s Nobody = NoRole s

@@ -6,7 +6,7 @@ ghost use mathlib.Core.Bool.{true, false, not, _&&_, _||_};
 ghost use mathlib.Core.Logic.{_↔_};
 ghost use Prim.Native.Nat.{ℕ};
 ghost use lib.Count.{ones};
-ghost use Rattle.sets.specs.Sets.{bit, same?, _⊆_, Lowest};
+ghost use Rattle.sets.specs.Sets.{bit, same?, _⊆_, Lowest, Highest};
 
 // One role of several, or nobody: a caller has to meet both.
 pub enum Pick {
@@ -84,6 +84,16 @@ pub fn lowest(s: u64) -> Pick
         return Pick::Nobody;
     }
     Pick::Role(u64::trailing_zeros(s) as usize)
+}
+
+// The highest role of s.
+pub fn highest(s: u64) -> Pick
+    ensures { λ y. ⌜ Highest s y ⌝ }
+{
+    if s == 0 {
+        return Pick::Nobody;
+    }
+    Pick::Role(63 - u64::leading_zeros(s) as usize)
 }
 
 // How many roles s has.

@@ -1,41 +1,33 @@
 use borrow.Author.Needs.{needs}
-use mathlib.Core.Path.{_≡_}
 use native.Mathlib.Omega.{arith}
 use lib.Count.{ones}
-use lib.ListN.{length}
-use Rattle.hierarchy.proofs.Peel.{Peeled, peel-start, peel-turn, peel-less, peel-end}
+use Rattle.hierarchy.proofs.Peel.{Left, left-start, left-turn, left-less, left-end}
 use Rattle.hierarchy.proofs.loops.loops.Statement.{statement}
 use Rattle.hierarchy.proofs.loops.loops.Tie as tie
 
 abbrev Inv-loop : tie.InvT-loop
-Inv-loop i a left₀ left = Peeled i a left
+Inv-loop i a left₀ left = Left i a left
 
 abbrev μ-loop : tie.MeasureT-loop
 μ-loop i a left₀ left = ones left
 
+seniors-requires : tie.Need-seniors-requires Inv-loop μ-loop
+seniors-requires c κs = search needs
+
 loop-holds : tie.Need-loop-holds Inv-loop μ-loop
-loop-holds c = peel-start _ _ rows-i rows-a
-  where
-    rows-i : length (c .args .t1) ≡ 64
-    rows-i = search needs
+loop-holds c = left-start _ _ (c .seniors .result) (omega (arith, c .seniors .ok)) (c .seniors .ensures)
 
-    rows-a : length (c .args .t2) ≡ 64
-    rows-a = search needs
-
-juniors-requires : tie.Need-juniors-requires Inv-loop μ-loop
-juniors-requires c κs = search needs
-
-common-requires : tie.Need-common-requires Inv-loop μ-loop
-common-requires c κs = search needs
+peeled-requires : tie.Need-peeled-requires Inv-loop μ-loop
+peeled-requires c κs = search needs
 
 returns : tie.Need-returns Inv-loop μ-loop
-returns c = peel-end (c .before .before .juniors .result) (c .before .common .result) (c .before .before .before .before .before .loop .inv) (c .before .before .juniors .ensures) (c .before .common .ensures) (c .if1 .taken)
+returns c = left-end (c .before .peeled .result) (c .before .before .before .before .loop .inv) (c .before .peeled .ensures) (c .if1 .taken)
 
 loop-less : tie.Need-loop-less Inv-loop μ-loop
-loop-less c = peel-less (c .before .before .juniors .result) (c .before .common .result) (c .before .before .before .before .before .loop .inv) (c .before .before .juniors .ensures) (c .before .common .ensures) (omega (arith, c .before .common .ok)) (c .if1 .left)
+loop-less c = left-less (c .before .peeled .result) (c .before .before .before .before .loop .inv) (c .before .peeled .ensures) (omega (arith, c .before .peeled .ok)) (c .if1 .left)
 
 loop-again : tie.Need-loop-again Inv-loop μ-loop
-loop-again c = peel-turn (c .before .before .juniors .result) (c .before .common .result) (c .before .before .before .before .before .loop .inv) (c .before .before .juniors .ensures) (c .before .common .ensures) (omega (arith, c .before .common .ok))
+loop-again c = left-turn (c .before .peeled .result) (c .before .before .before .before .loop .inv) (c .before .peeled .ensures) (omega (arith, c .before .peeled .ok))
 
 pub loops-spec : {M : Type 1} → statement M
 loops-spec =
@@ -43,9 +35,9 @@ loops-spec =
     (tie.spec
     Inv-loop
     μ-loop
+    seniors-requires
     loop-holds
-    juniors-requires
-    common-requires
+    peeled-requires
     returns
     loop-less
     loop-again)

@@ -1,0 +1,45 @@
+use Rattle.hierarchy.proofs.Spreads.{settled-is}
+use borrow.Author.Needs.{needs}
+use Rattle.hierarchy.proofs.views.settle.Statement.{statement}
+use Rattle.hierarchy.proofs.views.settle.Tie as tie
+
+mul-rows : tie.Need-mul-rows
+mul-rows c = search needs
+
+element-copy-out-rows : tie.Need-element-copy-out-rows
+element-copy-out-rows c = search needs
+
+rows-requires : tie.Need-rows-requires
+rows-requires c κs = search needs
+
+mul-union : tie.Need-mul-union
+mul-union c = search needs
+
+element-copy-out-union : tie.Need-element-copy-out-union
+element-copy-out-union c = search needs
+
+union-requires : tie.Need-union-requires
+union-requires c κs = search needs
+
+mul-reach : tie.Need-mul-reach
+mul-reach c = search needs
+
+element-write-reach : tie.Need-element-write-reach
+element-write-reach c = search needs
+
+returns : tie.Need-returns
+returns c = settled-is (c .before .before .rows .result) (c .union .result) (c .before .before .before .before .before .pre .0) (c .before .before .before .before .before .pre .1) (c .before .before .rows .ensures) (c .union .ensures)
+
+pub settle-spec : {M : Type 1} → statement M
+settle-spec =
+    tie.close
+    (tie.spec
+    mul-rows
+    element-copy-out-rows
+    rows-requires
+    mul-union
+    element-copy-out-union
+    union-requires
+    mul-reach
+    element-write-reach
+    returns)
