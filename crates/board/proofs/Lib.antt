@@ -7,3 +7,5 @@ pub mod Edits
 pub mod Looking
 pub mod Trying
 pub mod Asking
+pub mod Lies
+pub mod Values

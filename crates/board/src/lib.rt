@@ -7,7 +7,8 @@ ghost use Rattle.board.specs.Boards.{foundingBoard};
 
 pub mod checks;
 pub mod commands;
-pub mod effects;
+mod effects;
+pub mod lent;
 mod looks;
 pub mod questions;
 mod tables;

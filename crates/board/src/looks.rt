@@ -14,7 +14,7 @@ use hierarchy::views::Views;
 use hierarchy::views::work_out;
 use sets::has;
 
-pub struct Look {
+pub(crate) struct Look {
     pub sound: bool,
     pub views: Views,
 }
@@ -39,7 +39,7 @@ fn sound_by(b: Board, v: Views) -> bool
     managed(live, v)
 }
 
-pub fn look_at(b: Board) -> Look
+pub(crate) fn look_at(b: Board) -> Look
     ensures { λ r. ⌜ Seen b (r .sound) (r .views .down) (r .views .up) ⌝ }
 {
     let i = b.i;

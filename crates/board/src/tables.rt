@@ -10,7 +10,7 @@ use sets::with;
 use sets::without;
 
 // Row x of a table; a number above 63 has no junior.
-pub fn row_of(t: [u64; 64], x: usize) -> u64
+pub(crate) fn row_of(t: [u64; 64], x: usize) -> u64
     ensures { λ r. ⌜ r ≡ row t x ⌝ }
 {
     if x < 64 {
@@ -20,7 +20,7 @@ pub fn row_of(t: [u64; 64], x: usize) -> u64
 }
 
 // The table with s as the row of x.
-pub fn with_row(t: [u64; 64], x: usize, s: u64) -> [u64; 64]
+pub(crate) fn with_row(t: [u64; 64], x: usize, s: u64) -> [u64; 64]
     ensures { λ r. ⌜ ((z y : ℕ) → bit (row r z) y ≡ cond (same? x z) (bit s y) (bit (row t z) y)) ⌝ }
 {
     let mut n = t;
@@ -41,7 +41,7 @@ fn put(s: u64, r: usize, part: bool) -> u64
 }
 
 // The junior goes into the row of each senior, or out of it, as `part` says.
-pub fn entered(t: [u64; 64], seniors: u64, junior: usize, part: bool) -> [u64; 64]
+pub(crate) fn entered(t: [u64; 64], seniors: u64, junior: usize, part: bool) -> [u64; 64]
     ensures { λ r. ⌜ ((x y : ℕ) → bit (row r x) y ≡ cond (bit seniors x && same? junior y) part (bit (row t x) y)) ⌝ }
 {
     let mut n = t;
