@@ -2,6 +2,7 @@
 -- Settled (a contract allows one answer).
 pub mod Kept
 pub mod Settled
+pub mod Founding
 pub mod Rules
 pub mod Edits
 pub mod Looking

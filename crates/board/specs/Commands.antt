@@ -6,7 +6,7 @@ use mathlib.Core.List.{List, [], _∷_, _++_}
 use Prim.Native.Nat.{ℕ, _≤_, _<_}
 use lib.Dec.{eqb, leb}
 use Rattle.sets.specs.Sets.{bit, _∈_}
-use Rattle.hierarchy.specs.Tables.{Live, kind}
+use Rattle.hierarchy.specs.Tables.{kind}
 use Rattle.hierarchy.specs.Words.{Scope, Administrator, Loops, Managed, Sound}
 use Rattle.hierarchy.specs.First.{First}
 use Rattle.board.specs.Boards.{tablesOf}

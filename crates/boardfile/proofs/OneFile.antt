@@ -1,0 +1,134 @@
+-- Two boards with the same file are one board. Assumes nothing.
+use mathlib.Core.Path.{_≡_, refl, sym, ap, ap₂, _∙_}
+use mathlib.Core.Bool.{Bool, true, false}
+use mathlib.Core.Logic.{⊎-elim}
+use mathlib.Core.List.{List}
+use Prim.Native.Nat.{ℕ, _+_, _*_, _/_, _%_, _^_, _<_, zero-le}
+use native.Mathlib.Omega.{arith}
+use lib.Dec.{eqb}
+use lib.ListN.{length, getD, take, drop}
+use lib.Seq.{ext-getD}
+use borrow.Author.Tests.{eqb-true, not-false}
+use Rattle.sets.specs.Sets.{bit}
+use Rattle.sets.proofs.Bools.{true-or-false}
+use Rattle.sets.proofs.Laws.{ext}
+use Rattle.hierarchy.specs.Tables.{Tables, Shaped, row, kindOf, kind}
+use Rattle.board.specs.Boards.{tablesOf}
+use Rattle.board.specs.Effects.{hasI, hasA}
+use Rattle.board.specs.declared.Board.{Board}
+use Rattle.boardfile.specs.Files.{from, records, edge?, edgeBytes, bytesOf, kindAt, fileOf}
+use Rattle.boardfile.specs.Faults.{edgeDistance, roleCount}
+use Rattle.boardfile.specs.Answers.{IsFile}
+use Rattle.boardfile.proofs.Ascending.{from-has, from-settles}
+use Rattle.boardfile.proofs.Bytes.{whole, whole-roles, whole-edges, edge-distance, role-count, records-length, records-at}
+
+-- ---- the parts of a file are read off it
+
+module _ (rs es rs′ es′ : List ℕ) (e : whole rs es ≡ whole rs′ es′) where
+  same-roles : rs ≡ rs′
+  same-roles =
+      let n : length rs ≡ length rs′ = sym (role-count rs es) ∙ ap roleCount e ∙ role-count rs′ es′ in
+      sym (whole-roles rs es) ∙ ap₂ take n e ∙ whole-roles rs′ es′
+
+  same-edges : es ≡ es′
+  same-edges =
+      let n : length rs ≡ length rs′ = ap length same-roles in
+      let m : length es ≡ length es′ = sym (edge-distance rs es) ∙ ap edgeDistance e ∙ edge-distance rs′ es′ in
+      sym (whole-edges rs es) ∙ ap₂ take m (ap₂ drop n e) ∙ whole-edges rs′ es′
+
+-- ---- so are places and kinds
+
+module _ (kinds others : ℕ → ℕ) (ps qs : List ℕ) (e : records kinds ps ≡ records others qs) where
+  same-many : length ps ≡ length qs
+  same-many = omega (arith, records-length kinds ps, records-length others qs, ap length e)
+
+  same-at : (i : ℕ) → i < length ps → (getD ps i 0 ≡ getD qs i 0) × (kinds (getD ps i 0) ≡ others (getD qs i 0))
+  same-at i l =
+      let r = records-at kinds ps i l in
+      let s = records-at others qs i (omega (arith, same-many)) in
+      let one : getD ps i 0 / 64 ≡ getD qs i 0 / 64 = sym (r .senior-is) ∙ ap (λ (l : List ℕ). getD l (3 * i) 0) e ∙ s .senior-is in
+      let two : getD ps i 0 % 64 ≡ getD qs i 0 % 64 = sym (r .junior-is) ∙ ap (λ (l : List ℕ). getD l (3 * i + 1) 0) e ∙ s .junior-is in
+      (omega arith, sym (r .kind-is) ∙ ap (λ (l : List ℕ). getD l (3 * i + 2) 0) e ∙ s .kind-is)
+
+  same-places : ps ≡ qs
+  same-places = ext-getD 0 ps qs same-many (λ i l. same-at i l .0)
+
+module _ (lives living : ℕ → Bool) (kinds others : ℕ → ℕ) (e : bytesOf lives kinds ≡ bytesOf living others) where
+  pub same-lives : (x : ℕ) → x < 64 → lives x ≡ living x
+  unfolding bytesOf
+  same-lives x l =
+      from-settles 64 0 lives living
+      (same-roles (from 64 0 lives) (edgeBytes kinds 4096 0) (from 64 0 living) (edgeBytes others 4096 0) e) x zero-le (omega arith)
+
+  records-agree : records kinds (from 4096 0 (edge? kinds)) ≡ records others (from 4096 0 (edge? others))
+  unfolding bytesOf edgeBytes
+  records-agree = same-edges (from 64 0 lives) (edgeBytes kinds 4096 0) (from 64 0 living) (edgeBytes others 4096 0) e
+
+  pub same-kinds : (x : ℕ) → x < 4096 → kinds x ≡ others x
+  same-kinds x l = ⊎-elim
+      (λ h. let w = from-has 4096 0 (edge? kinds) x h zero-le (omega arith) in
+      let same = same-at kinds others (from 4096 0 (edge? kinds)) (from 4096 0 (edge? others)) records-agree (w .at) (w .inside) in
+      ap kinds (sym (w .is)) ∙ same .1 ∙ ap others (sym (same .0) ∙ w .is))
+      (λ h. let z : edge? others x ≡ false = sym (alike x l) ∙ h in eqb-true (kinds x) 0 (not-false (eqb (kinds x) 0) h) ∙ sym (eqb-true (others x) 0 (not-false (eqb (others x) 0) z)))
+      (true-or-false (edge? kinds x))
+    where
+      alike : (x : ℕ) → x < 4096 → edge? kinds x ≡ edge? others x
+      alike x l =
+          from-settles 4096 0 (edge? kinds) (edge? others)
+          (same-places kinds others (from 4096 0 (edge? kinds)) (from 4096 0 (edge? others)) records-agree) x zero-le (omega arith)
+
+-- ---- and the rows of both tables
+
+part-i : (p q : Bool) → hasI (kindOf p q) ≡ p
+part-i true true = refl
+part-i true false = refl
+part-i false true = refl
+part-i false false = refl
+
+part-a : (p q : Bool) → hasA (kindOf p q) ≡ q
+part-a true true = refl
+part-a true false = refl
+part-a false true = refl
+part-a false false = refl
+
+pub bit-i : (t : Tables) (x y : ℕ) → bit (row (t .i) x) y ≡ hasI (kind t x y)
+unfolding kind
+bit-i t x y = sym (part-i (bit (row (t .i) x) y) (bit (row (t .a) x) y))
+
+pub bit-a : (t : Tables) (x y : ℕ) → bit (row (t .a) x) y ≡ hasA (kind t x y)
+unfolding kind
+bit-a t x y = sym (part-a (bit (row (t .i) x) y) (bit (row (t .a) x) y))
+
+pub at-place : (t : Tables) (x y : ℕ) → y < 64 → kindAt t (x * 64 + y) ≡ kind t x y
+unfolding kindAt
+at-place t x y l = ap₂ (kind t) (omega arith) (omega arith)
+
+-- a table is settled by its entries
+rows-same : (t t′ : List ℕ) → length t ≡ 64 → length t′ ≡ 64 → ((x : ℕ) → row t x < 2 ^ 64) → ((x : ℕ) → row t′ x < 2 ^ 64)
+    → ((x y : ℕ) → x < 64 → y < 64 → bit (row t x) y ≡ bit (row t′ x) y) → t ≡ t′
+rows-same t t′ n n′ s s′ h = ext-getD 0 t t′ (n ∙ sym n′) (λ x l. ext 64 (row t x) (row t′ x) (s x) (s′ x) (λ y m. h x y (omega arith) m))
+
+pub file-injective : (b b′ : Board) → Shaped (tablesOf b) → Shaped (tablesOf b′) → fileOf b ≡ fileOf b′ → b ≡ b′
+unfolding fileOf
+file-injective b b′ s s′ e = λ k. record { live = live k; i = i k; a = a k }
+  where
+    kinds : (x y : ℕ) → x < 64 → y < 64 → kind (tablesOf b) x y ≡ kind (tablesOf b′) x y
+    kinds x y l m =
+        sym (at-place (tablesOf b) x y m)
+        ∙ same-kinds (bit (b .live)) (bit (b′ .live)) (kindAt (tablesOf b)) (kindAt (tablesOf b′)) e (x * 64 + y) (omega arith)
+        ∙ at-place (tablesOf b′) x y m
+
+    live : b .live ≡ b′ .live
+    live = ext 64 (b .live) (b′ .live) (s .live-fits) (s′ .live-fits) (same-lives (bit (b .live)) (bit (b′ .live)) (kindAt (tablesOf b)) (kindAt (tablesOf b′)) e)
+
+    i : b .i ≡ b′ .i
+    i = rows-same (b .i) (b′ .i) (s .i-rows) (s′ .i-rows) (s .i-fits) (s′ .i-fits)
+        (λ x y l m. bit-i (tablesOf b) x y ∙ ap hasI (kinds x y l m) ∙ sym (bit-i (tablesOf b′) x y))
+
+    a : b .a ≡ b′ .a
+    a = rows-same (b .a) (b′ .a) (s .a-rows) (s′ .a-rows) (s .a-fits) (s′ .a-fits)
+        (λ x y l m. bit-a (tablesOf b) x y ∙ ap hasA (kinds x y l m) ∙ sym (bit-a (tablesOf b′) x y))
+
+-- a file is the file of one board
+pub one-board : {f : List ℕ} {b b′ : Board} → IsFile f b → IsFile f b′ → b ≡ b′
+one-board {b = b} {b′ = b′} h h′ = file-injective b b′ (h .shaped) (h′ .shaped) (sym (h .bytes) ∙ h′ .bytes)

@@ -1,0 +1,121 @@
+use mathlib.Core.Path.{_≡_, subst}
+use mathlib.Core.Logic.{⊎-elim}
+use Prim.Native.Nat.{ℕ, _+_, _-_, _*_, _≤_, _<_}
+use native.Mathlib.Omega.{arith}
+use lib.ListN.{length}
+use borrow.Author.Tests.{ltb-true, ltb-false, not-true, not-false}
+use Rattle.sets.proofs.Bools.{false-no}
+use Rattle.hierarchy.specs.Words.{Sound}
+use Rattle.board.specs.Boards.{tablesOf}
+use Rattle.boardfile.specs.Files.{fileOf}
+use Rattle.boardfile.specs.Answers.{NoRoom.past-end, NoRoom.too-few}
+use Rattle.boardfile.proofs.Filed.{sizes-few, file-long, file-room, unsound-file, no-room, filed}
+use borrow.Author.Needs.{needs}
+use Rattle.boardfile.proofs.write.Statement.{statement}
+use Rattle.boardfile.proofs.write.Tie as tie
+
+-- src/lib.rt:68:9
+sound-requires : tie.Need-sound-requires
+sound-requires c κs = search needs
+
+-- src/lib.rt:69:9
+returns : tie.Need-returns
+returns c = unsound-file (λ h. false-no (not-true (c .before .sound .result) (c .if1 .taken)) (c .before .sound .ensures .1 h))
+
+is-sound : (c : tie.Else1) → Sound (tablesOf (c .before .before .before .args .b))
+is-sound c = c .before .sound .ensures .0 (not-false (c .before .sound .result) (c .if1 .left))
+
+few : (c : tie.After-edge-count) → (c .before .size .result ≤ 64) × (c .edge-count .result ≤ 4096)
+few c = sizes-few (c .before .before .before .before .before .args .b) (is-sound (c .before .before) .shaped .live-fits) (c .before .size .ensures) (c .edge-count .ensures)
+
+long : (c : tie.After-edge-count) → c .before .size .result + 3 * c .edge-count .result + 6 ≡ length (fileOf (c .before .before .before .before .before .args .b))
+long c = file-long (c .before .before .before .before .before .args .b) (is-sound (c .before .before) .shaped .live-fits) (c .before .size .ensures) (c .edge-count .ensures)
+
+-- src/lib.rt:71:17
+size-requires : tie.Need-size-requires
+size-requires c κs = search needs
+
+-- src/lib.rt:71:17
+cast-roles : tie.Need-cast-roles
+cast-roles c = search needs
+
+-- src/lib.rt:72:21
+edge-count-requires : tie.Need-edge-count-requires
+edge-count-requires c κs = search needs
+
+-- src/lib.rt:72:17
+mul-edges : tie.Need-mul-edges
+mul-edges c = let h = few c in omega arith
+
+-- src/lib.rt:73:15
+add-len : tie.Need-add-len
+add-len c = let h = few c in omega arith
+
+-- src/lib.rt:73:15
+add-len-2 : tie.Need-add-len-2
+add-len-2 c = let h = few c in omega arith
+
+-- src/lib.rt:74:26
+sub-if3 : tie.Need-sub-if3
+sub-if3 c = search needs
+
+-- src/lib.rt:75:9
+returns-2 : tie.Need-returns-2
+returns-2 c =
+    let s = c .before .before .before .before .before .before in
+    no-room (is-sound (c .before .before .before)) (⊎-elim
+    (λ w. past-end (w .taken))
+    (λ w. too-few (subst (λ (n : ℕ). length (s .args .out .now) - s .args .at < n) (long (c .before)) (ltb-true _ _ (w .1 .taken))))
+    (c .if2 .came))
+
+-- src/lib.rt:77:31
+sub-put-file : tie.Need-sub-put-file
+sub-put-file c = search needs
+
+-- src/lib.rt:77:31
+part-put-file-start : tie.Need-part-put-file-start
+part-put-file-start c = search needs
+
+-- src/lib.rt:77:31
+part-put-file-end : tie.Need-part-put-file-end
+part-put-file-end c = search needs
+
+-- src/lib.rt:77:5
+put-file-requires : tie.Need-put-file-requires
+put-file-requires c κs =
+    let n = c .before .before .before in
+    let s = n .before .before .before .before .before in
+    file-room (s .args .b) (is-sound (n .before .before) .shaped .live-fits) (n .before .size .ensures) (n .edge-count .ensures) (s .args .out .now) (s .args .at)
+    (c .before .before .if2 .left) (ltb-false _ _ (c .before .if3 .left))
+
+-- src/lib.rt:65:1
+same-length : tie.Need-same-length
+same-length c = search needs
+
+-- src/lib.rt:65:1
+returns-3 : tie.Need-returns-3
+returns-3 c =
+    let w = c .before .before in
+    let n = w .before .before .before .before in
+    filed (is-sound (n .before .before)) _ (long n) (w .before .before .before .if2 .left) (ltb-false _ _ (w .before .before .if3 .left)) (w .put-file .last .1 .1 .1 .0) (w .put-file .ensures)
+
+pub write-spec : {M : Type 1} → statement M
+write-spec =
+    tie.close
+    (tie.spec
+    sound-requires
+    returns
+    size-requires
+    cast-roles
+    edge-count-requires
+    mul-edges
+    add-len
+    add-len-2
+    sub-if3
+    returns-2
+    sub-put-file
+    part-put-file-start
+    part-put-file-end
+    put-file-requires
+    same-length
+    returns-3)

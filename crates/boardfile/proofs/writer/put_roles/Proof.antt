@@ -1,0 +1,73 @@
+use Rattle.boardfile.proofs.Writings.{RolesPut, roles-put-start, roles-put-same, roles-put-few, roles-put-end, roles-put-room, roles-put-turn}
+use borrow.Author.Needs.{needs}
+use native.Mathlib.Omega.{arith}
+use lib.Count.{ones}
+use Rattle.sets.specs.Sets.{LowestRole}
+use Rattle.sets.proofs.Laws.{ones-less}
+use Rattle.sets.proofs.Members.{picked, nobody}
+use Rattle.boardfile.proofs.writer.put_roles.Statement.{statement}
+use Rattle.boardfile.proofs.writer.put_roles.Tie as tie
+
+abbrev Inv-loop : tie.InvT-loop
+Inv-loop live out₀ rest₀ k₀ out rest k = RolesPut live out₀ out rest k
+
+abbrev μ-loop : tie.MeasureT-loop
+μ-loop live out₀ rest₀ k₀ out rest k = ones rest
+
+loop-holds : tie.Need-loop-holds Inv-loop μ-loop
+loop-holds c = roles-put-start _ _
+
+lowest-requires : tie.Need-lowest-requires Inv-loop μ-loop
+lowest-requires c κs = search needs
+
+enum-known-role : tie.Need-enum-known-role Inv-loop μ-loop
+enum-known-role c = search needs
+
+enum-told : tie.Need-enum-told Inv-loop μ-loop
+enum-told c = search needs
+
+same-length : tie.Need-same-length Inv-loop μ-loop
+same-length c = roles-put-same (c .before .before .before .before .before .pre) (c .before .before .before .loop .inv)
+
+returns : tie.Need-returns Inv-loop μ-loop
+returns c = roles-put-end (c .before .before .before .before .before .pre) (c .before .before .before .loop .inv) (nobody (c .enum-told .given .1) (c .before .before .lowest .ensures))
+
+low : (c : tie.After-known-told Inv-loop μ-loop) → LowestRole (c .before .before .before .before .loop .rest) (c .before .role .given .0 .0)
+low c = picked (c .before .role .given .1) (c .before .before .before .lowest .ensures)
+
+cast-out : tie.Need-cast-out Inv-loop μ-loop
+cast-out c = let l = low c in omega arith
+
+slice-write-out : tie.Need-slice-write-out Inv-loop μ-loop
+slice-write-out c = roles-put-room (c .before .before .before .before .before .before .pre) (c .before .before .before .before .loop .inv) (low c)
+
+without-requires : tie.Need-without-requires Inv-loop μ-loop
+without-requires c κs = search needs
+
+add-k : tie.Need-add-k Inv-loop μ-loop
+add-k c = let l = roles-put-few (c .before .before .before .before .before .before .before .pre) (c .before .before .before .before .before .loop .inv) in omega arith
+
+loop-less : tie.Need-loop-less Inv-loop μ-loop
+loop-less c = let l = low (c .before) in ones-less _ _ _ (l .role) (l .member) (c .without .ensures)
+
+loop-again : tie.Need-loop-again Inv-loop μ-loop
+loop-again c = roles-put-turn (c .before .before .before .before .before .before .before .pre) (c .before .before .before .before .before .loop .inv) (low (c .before)) (c .without .result) (c .without .ensures)
+
+pub put-roles-spec : {M : Type 1} → statement M
+put-roles-spec =
+    tie.close
+    (tie.spec
+    Inv-loop
+    μ-loop
+    loop-holds
+    lowest-requires
+    enum-known-role
+    enum-told
+    same-length
+    returns
+    cast-out
+    slice-write-out
+    without-requires
+    add-k
+    loop-less
+    loop-again)

@@ -1,0 +1,65 @@
+-- The refusals of the reader, the writer and the stretch, in the order they are tried, and what each answers.
+use mathlib.Core.Path.{_≡_}
+use mathlib.Core.Logic.{_≢_}
+use mathlib.Core.List.{List, [], _∷_, _++_}
+use Prim.Native.Nat.{ℕ, _+_, _-_, _<_}
+use lib.ListN.{length, take, drop}
+use Rattle.hierarchy.specs.Tables.{Live, Shaped}
+use Rattle.hierarchy.specs.Words.{Loops, Managed, Sound}
+use Rattle.hierarchy.specs.First.{First}
+use Rattle.board.specs.Boards.{tablesOf, foundingBoard}
+use Rattle.board.specs.declared.Board.{Board}
+use Rattle.boardfile.specs.Files.{fileOf, stretchOf}
+use Rattle.boardfile.specs.Faults.{BadFrame, BadRecord}
+
+-- f is the file of b, whose roles are 0 to 63
+pub record IsFile (f : List ℕ) (b : Board) : Type 0 where
+  pub shaped : Shaped (tablesOf b)
+  pub bytes : f ≡ fileOf b
+
+-- ---- reading: what has neither fault is the file of a board, and that board may have trouble of its own
+
+abbrev pub refusals : List ℕ → List (ℕ × Type 0)
+refusals f =
+    (10, BadFrame f)
+    ∷ (11, BadRecord f)
+    ∷ (7, (b : Board) × IsFile f b × Loops (tablesOf b))
+    ∷ (9, (b : Board) × IsFile f b × (Managed (tablesOf b) → ⊥))
+    ∷ []
+
+-- done gives the board, a refusal the founding board
+pub record ReadAnswer (f : List ℕ) (number : ℕ) (board : Board) : Type 0 where
+  pub numbered : First (refusals f) number
+  pub done : number ≡ 0 → IsFile f board × Sound (tablesOf board)
+  pub refused : number ≢ 0 → board ≡ foundingBoard
+
+-- ---- the edge records of one senior: the reader's refusals, then 2, then 3
+
+abbrev pub stretchRefusals : List ℕ → ℕ → List (ℕ × Type 0)
+stretchRefusals f role =
+    refusals f
+    ++ ((2, 63 < role)
+    ∷ (3, (b : Board) × IsFile f b × (Live (tablesOf b) role → ⊥))
+    ∷ [])
+
+-- no bytes where the number, whatever it is, isn't 0
+pub record StretchAnswer (f : List ℕ) (role : ℕ) (part : List ℕ) : Type 0 where
+  pub number : ℕ
+  pub numbered : First (stretchRefusals f role) number
+  pub done : number ≡ 0 → (b : Board) × IsFile f b × (part ≡ stretchOf b role)
+  pub refused : number ≢ 0 → part ≡ []
+
+-- ---- writing to a place of a buffer
+
+pub data NoRoom (b : Board) (entry : List ℕ) (at : ℕ) : Type 0 where
+  past-end : length entry < at → NoRoom b entry at
+  too-few : length entry - at < length (fileOf b) → NoRoom b entry at
+
+abbrev pub writeRefusals : Board → List ℕ → ℕ → List (ℕ × Type 0)
+writeRefusals b entry at = (1, (Sound (tablesOf b) → ⊥)) ∷ (12, NoRoom b entry at) ∷ []
+
+-- done puts the file there, and the bytes before it and after it stay; a refusal changes none
+pub record WriteAnswer (b : Board) (entry : List ℕ) (at : ℕ) (exit : List ℕ) (number len : ℕ) : Type 0 where
+  pub numbered : First (writeRefusals b entry at) number
+  pub done : number ≡ 0 → (len ≡ length (fileOf b)) × (exit ≡ take at entry ++ fileOf b ++ drop (at + length (fileOf b)) entry)
+  pub refused : number ≢ 0 → (len ≡ 0) × (exit ≡ entry)

@@ -1,0 +1,135 @@
+// The board file: one for each sound board, and every other file refused.
+//
+// In order: a byte for each live role, ascending; three bytes for each edge, senior, junior and kind, ascending by senior and then by
+// junior; a trailer of six bytes: how far before the trailer the edge records begin (0 where there are none), how far before it the
+// role bytes begin, each in two bytes, the low one first, and HH.
+mod frame;
+mod reader;
+mod writer;
+
+ghost use mathlib.Core.Path.{_≡_};
+ghost use Rattle.board.specs.Boards.{foundingBoard};
+ghost use Rattle.hierarchy.specs.First.{First};
+ghost use Rattle.boardfile.specs.Answers.{ReadAnswer, WriteAnswer, stretchRefusals, StretchAnswer};
+ghost use Rattle.boardfile.specs.Parts.{Asked};
+use board::Board;
+use board::checks::sound;
+use board::checks::trouble;
+use frame::Framed;
+use frame::TRAILER;
+use frame::frame;
+use reader::Roles;
+use reader::below;
+use reader::edges;
+use reader::listed;
+use sets::has;
+use sets::size;
+pub use writer::edge_count;
+use writer::put_file;
+
+pub struct Reading {
+    pub number: u8,
+    pub board: Board,
+}
+
+// The answer to a file that is refused.
+fn refused(number: u8) -> Reading
+    ensures { λ r. ⌜ (r .number ≡ number) × (r .board ≡ foundingBoard) ⌝ }
+{
+    let board = Board::founding();
+    Reading { number, board }
+}
+
+// The board of a file.
+pub fn read(file: &[u8]) -> Reading
+    ensures { λ r. ⌜ ReadAnswer (now (file .entry)) (r .number) (r .board) ⌝ }
+{
+    let Framed::Good {
+        roles,
+        edges: records,
+    } = frame(file)
+    else {
+        return refused(10);
+    };
+    let Roles::Live(live) = listed(file, roles) else {
+        return refused(11);
+    };
+    let rows = edges(file, roles, records, live);
+    if !rows.good {
+        return refused(11);
+    }
+    let i = rows.i;
+    let a = rows.a;
+    let board = Board { live, i, a };
+    let number = trouble(board);
+    if number != 0 {
+        return refused(number);
+    }
+    Reading { number, board }
+}
+
+pub struct Written {
+    pub number: u8,
+    pub len: usize,
+}
+
+// The file of a board into a buffer, from a place on.
+pub fn write(b: Board, out: &mut [u8], at: usize) -> Written
+    ensures { λ r. ⌜ WriteAnswer b (now (out .entry)) at (now (out .exit)) (r .number) (r .len) ⌝ }
+{
+    if !sound(b) {
+        return Written { number: 1, len: 0 };
+    }
+    let roles = size(b.live) as usize;
+    let edges = 3 * edge_count(b);
+    let len = roles + edges + TRAILER;
+    if out.len() < at || out.len() - at < len {
+        return Written { number: 12, len: 0 };
+    }
+    put_file(b, roles, edges, &mut out[at..]);
+    Written { number: 0, len }
+}
+
+// The number of a question about one role of a file, by what was read.
+fn asked(reading: Reading, role: u8) -> u8
+    ensures { λ r. ⌜ Asked (reading .number) (reading .board) role r ⌝ }
+{
+    let board = reading.board;
+    if reading.number != 0 {
+        return reading.number;
+    }
+    if 63 < role {
+        return 2;
+    }
+    if !has(board.live, role as usize) {
+        return 3;
+    }
+    0
+}
+
+// The number that goes with a stretch.
+pub fn stretch_number(file: &[u8], role: u8) -> u8
+    ensures { λ r. ⌜ First (stretchRefusals (now (file .entry)) role) r ⌝ }
+{
+    asked(read(file), role)
+}
+
+// The edge records of one senior, as a part of the file.
+pub fn stretch(file: &[u8], role: u8) -> &[u8]
+    ensures { λ r. ⌜ StretchAnswer (now (file .entry)) role (now r) ⌝ }
+{
+    let Framed::Good {
+        roles,
+        edges: records,
+    } = frame(file)
+    else {
+        return &file[0..0];
+    };
+    if asked(read(file), role) != 0 {
+        return &file[0..0];
+    }
+    let senior = role as usize;
+    let start = roles + 3 * below(file, roles, records, senior);
+    let end = roles + 3 * below(file, roles, records, senior + 1);
+    &file[start..end]
+}

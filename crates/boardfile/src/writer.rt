@@ -1,0 +1,123 @@
+// The parts of a board file, each put at the start of the bytes that are lent for it; what lies behind the part stays.
+ghost use mathlib.Core.Path.{_≡_};
+ghost use Prim.Native.Nat.{_≤_, _<_};
+ghost use lib.ListN.{length};
+ghost use Rattle.sets.specs.Sets.{bit};
+ghost use Rattle.hierarchy.specs.Tables.{kindOf};
+ghost use Rattle.board.specs.Boards.{tablesOf};
+ghost use Rattle.boardfile.specs.Files.{from, edge?, edgeBytes, kindAt, trailer, fileOf};
+ghost use Rattle.boardfile.specs.Parts.{rowBytes, Put, Room};
+use crate::frame::MARK;
+use board::Board;
+use sets::Pick;
+use sets::has;
+use sets::lowest;
+use sets::size;
+use sets::union;
+use sets::without;
+
+// How many edges a board has.
+pub fn edge_count(b: Board) -> usize
+    ensures { λ r. ⌜ r ≡ length (from 4096 0 (edge? (kindAt (tablesOf b)))) ⌝ }
+{
+    let i = b.i;
+    let a = b.a;
+    let mut n: usize = 0;
+    let mut x: usize = 0;
+    while x < 64 {
+        n += size(union(i[x], a[x])) as usize;
+        x += 1;
+    }
+    n
+}
+
+// The bytes of the live roles.
+pub(crate) fn put_roles(live: u64, out: &mut [u8])
+    requires { ⌜ length (from 64 0 (bit live)) ≤ length (now out) ⌝ }
+    ensures { λ _. ⌜ Put (from 64 0 (bit live)) (now (out .entry)) (now (out .exit)) ⌝ }
+{
+    let mut rest = live;
+    let mut k: usize = 0;
+    loop {
+        let Pick::Role(role) = lowest(rest) else {
+            return;
+        };
+        out[k] = role as u8;
+        rest = without(rest, role);
+        k += 1;
+    }
+}
+
+// The number of a kind, by its two parts.
+fn kind(i: bool, a: bool) -> u8
+    ensures { λ r. ⌜ r ≡ kindOf i a ⌝ }
+{
+    if i {
+        if a {
+            return 3;
+        }
+        return 1;
+    }
+    if a {
+        return 2;
+    }
+    0
+}
+
+// The records of one senior, by its row in either table; and how many bytes they are.
+fn put_row(senior: usize, i: u64, a: u64, out: &mut [u8]) -> usize
+    requires { ⌜ (senior < 64) × (length (rowBytes senior i a) ≤ length (now out)) ⌝ }
+    ensures { λ r. ⌜ (r ≡ length (rowBytes senior i a)) × Put (rowBytes senior i a) (now (out .entry)) (now (out .exit)) ⌝ }
+{
+    let mut rest = union(i, a);
+    let mut at: usize = 0;
+    loop {
+        let Pick::Role(junior) = lowest(rest) else {
+            return at;
+        };
+        out[at] = senior as u8;
+        out[at + 1] = junior as u8;
+        out[at + 2] = kind(has(i, junior), has(a, junior));
+        rest = without(rest, junior);
+        at += 3;
+    }
+}
+
+// All edge records.
+pub(crate) fn put_edges(b: Board, out: &mut [u8])
+    requires { ⌜ length (edgeBytes (kindAt (tablesOf b)) 4096 0) ≤ length (now out) ⌝ }
+    ensures { λ _. ⌜ Put (edgeBytes (kindAt (tablesOf b)) 4096 0) (now (out .entry)) (now (out .exit)) ⌝ }
+{
+    let i = b.i;
+    let a = b.a;
+    let mut at: usize = 0;
+    let mut x: usize = 0;
+    while x < 64 {
+        at += put_row(x, i[x], a[x], &mut out[at..]);
+        x += 1;
+    }
+}
+
+// The trailer, by its two distances.
+pub(crate) fn put_trailer(edges: usize, roles: usize, out: &mut [u8])
+    requires { ⌜ (edges < 65536) × (roles < 65536) × (6 ≤ length (now out)) ⌝ }
+    ensures { λ _. ⌜ Put (trailer edges roles) (now (out .entry)) (now (out .exit)) ⌝ }
+{
+    out[0] = (edges % 256) as u8;
+    out[1] = (edges / 256) as u8;
+    out[2] = (roles % 256) as u8;
+    out[3] = (roles / 256) as u8;
+    out[4] = MARK[0];
+    out[5] = MARK[1];
+}
+
+// The whole file of a board that has so many role bytes and so many bytes of edge records.
+pub(crate) fn put_file(b: Board, roles: usize, edges: usize, out: &mut [u8])
+    requires { ⌜ Room b roles edges (now out) ⌝ }
+    ensures { λ _. ⌜ Put (fileOf b) (now (out .entry)) (now (out .exit)) ⌝ }
+{
+    let body = roles + edges;
+    put_roles(b.live, &mut out[0..roles]);
+    put_edges(b, &mut out[roles..body]);
+    put_trailer(edges, body, &mut out[body..]);
+}
