@@ -275,9 +275,9 @@ module _ (c : Command) (s r : ℕ) (fits : r < 2 ^ 64) where
   unfolding lives
   living e1 e2 h = is-setOf r _ fits (λ x l. h x ∙ rw (ne-eqb (c .code) 1 e1, ne-eqb (c .code) 2 e2))
 
-pub board-is : (b : Board) (c : Command) (live : ℕ) (i a : List ℕ) → live ≡ setOf (λ x. lives c (bit (b .live) x) x)
-    → i ≡ tableAfter c (c .«i_seniors») (c .«i_juniors») (hasI (c .kind)) (b .i)
-    → a ≡ tableAfter c (c .«a_seniors») (c .«a_juniors») (hasA (c .kind)) (b .a)
+pub board-is : (b : Board) (c : Command) (live : ℕ) (i a : List ℕ) (p q : Bool) → live ≡ setOf (λ x. lives c (bit (b .live) x) x)
+    → p ≡ hasI (c .kind) → i ≡ tableAfter c (c .«i_seniors») (c .«i_juniors») p (b .i)
+    → q ≡ hasA (c .kind) → a ≡ tableAfter c (c .«a_seniors») (c .«a_juniors») q (b .a)
     → _≡_ {A = Board} record { live = live; i = i; a = a } (after b c)
 unfolding after
-board-is b c live i a p q r = rw (p, q, r)
+board-is b c live i a p q hl hp hi hq ha = rw (hl, hi, ha, hp, hq)

@@ -67,7 +67,7 @@ fn has_part(kind: u8, own: u8) -> bool
 }
 
 // The board that the command would leave.
-pub(crate) fn after(b: Board, c: Command) -> Board
+pub fn after(b: Board, c: Command) -> Board
     ensures { λ r. ⌜ r ≡ after b c ⌝ }
 {
     let old_i = b.i;

@@ -1,4 +1,5 @@
--- What the proofs of `boardfile` stand on.
+-- A reader starts at Demands, then Theorems; Settled says that each contract allows one answer. The rest is what the proofs stand on.
+pub mod Demands
 pub mod Ascending
 pub mod Bytes
 pub mod Faultless
@@ -13,3 +14,6 @@ pub mod Counts
 pub mod Filed
 pub mod Stretches
 pub mod Asking
+pub mod Fullest
+pub mod Theorems
+pub mod Settled

@@ -1,7 +1,7 @@
 -- From the parts that are read to the reader's answer. Assumes nothing.
 use mathlib.Core.Path.{_≡_, refl, sym, ap, ap₂, _∙_, subst}
 use mathlib.Core.Bool.{Bool, true, false}
-use mathlib.Core.Logic.{_⊎_, inl, inr, ⊎-elim, _≢_, dite}
+use mathlib.Core.Logic.{inl, inr, ⊎-elim, _≢_}
 use mathlib.Core.List.{List, _++_, append-assoc}
 use Prim.Native.Nat.{ℕ, _+_, _*_, _/_, _%_, _^_, _≤_, _<_}
 use native.Mathlib.Omega.{arith}
@@ -13,13 +13,14 @@ use Rattle.sets.proofs.Digits.{bit-out}
 use Rattle.hierarchy.specs.Tables.{Tables, tables, row, Live, Shaped, kindOf, kind}
 use Rattle.hierarchy.specs.Words.{Joined, Loops, Managed, Sound}
 use Rattle.hierarchy.specs.First.{First}
+use Rattle.hierarchy.proofs.Decide.{managed-dec}
 use Rattle.board.specs.Boards.{tablesOf, foundingBoard, troubles}
 use Rattle.board.specs.declared.Board.{Board}
+use Rattle.board.proofs.Rules.{stable, first-done}
 use Rattle.boardfile.specs.Files.{from, edgeBytes, kindAt, trailer, bytesOf, fileOf}
 use Rattle.boardfile.specs.Faults.{BadFrame, BadRecord}
 use Rattle.boardfile.specs.Parts.{GoodFrame, GoodRoles, GoodEdges}
 use Rattle.boardfile.specs.Answers.{IsFile, refusals, ReadAnswer}
-use Rattle.hierarchy.proofs.Decide.{managed-dec}
 use Rattle.boardfile.proofs.Bytes.{whole}
 use Rattle.boardfile.proofs.Faultless.{Tidy, good-records}
 use Rattle.boardfile.proofs.OneFile.{at-place, one-board}
@@ -29,7 +30,7 @@ made live i a = record { live = live; i = i; a = a }
 
 -- ---- kinds
 
-kind-known : (t : Tables) (x y : ℕ) → kind t x y ≤ 3
+pub kind-known : (t : Tables) (x y : ℕ) → kind t x y ≤ 3
 unfolding kind
 kind-known t x y = go (bit (row (t .i) x) y) (bit (row (t .a) x) y)
   where
@@ -138,17 +139,14 @@ module _ {f : List ℕ} {b : Board} (number : ℕ) (frame : BadFrame f → ⊥) 
   troubled n = record { numbered = numbered; done = λ e. absurd (n e); refused = λ _. refl }
 
   pub untroubled : number ≡ 0 → Joined (tablesOf b) → Live (tablesOf b) 0 → ReadAnswer f number b
-  unfolding First
   untroubled e joined root = record { numbered = numbered; done = λ _. (is, sound); refused = λ n. absurd (n e) }
     where
-      quiet : (Loops (tablesOf b) → ⊥) × ((Managed (tablesOf b) → ⊥) → ⊥)
-      quiet = ⊎-elim (λ h. absurd (omega (arith, h .1))) (λ r. (r .0, ⊎-elim (λ h. absurd (omega (arith, h .1))) (λ h. h .0) (r .1))) t
-
       sound : Sound (tablesOf b)
-      sound = record {
-        shaped = is .shaped;
-        joined = joined;
-        loopless = quiet .0;
-        root = root;
-        managed = dite (managed-dec (is .shaped)) (λ h. h) (λ h. absurd (quiet .1 h));
-      }
+      sound =
+          let passed = first-done (troubles b) refl (subst (First (troubles b)) e t) in record {
+            shaped = is .shaped;
+            joined = joined;
+            loopless = passed .0;
+            root = root;
+            managed = stable (managed-dec (is .shaped)) (passed .1 .0);
+          }

@@ -1,7 +1,7 @@
 -- The edge records of one senior: where they stand in the file. Assumes nothing.
-use mathlib.Core.Path.{_≡_, sym, ap, ap₂, _∙_, subst, subst₂}
+use mathlib.Core.Path.{_≡_, sym, ap, _∙_, subst, subst₂}
 use mathlib.Core.Bool.{Bool}
-use mathlib.Core.Logic.{_⊎_, ⊎-elim}
+use mathlib.Core.Logic.{⊎-elim}
 use mathlib.Core.List.{List, _++_, append-assoc}
 use Prim.Native.Nat.{ℕ, _+_, _-_, _*_, _≤_, _<_, zero-le}
 use native.Mathlib.Nat.{zero-add, add-zero, le-antisymm}
@@ -13,7 +13,7 @@ use Rattle.sets.specs.Sets.{bit}
 use Rattle.sets.proofs.Bools.{lt-or-ge}
 use Rattle.board.specs.Boards.{tablesOf}
 use Rattle.board.specs.declared.Board.{Board}
-use Rattle.boardfile.specs.Files.{from, edge?, edgeBytes, kindAt, trailer, bytesOf, fileOf, stretchOf}
+use Rattle.boardfile.specs.Files.{from, edge?, edgeBytes, kindAt, trailer, bytesOf, fileOf, stretchOf, startOf}
 use Rattle.boardfile.specs.Faults.{roleCount, edgeCount, senior}
 use Rattle.boardfile.specs.Parts.{GoodFrame, Spelt, Below}
 use Rattle.boardfile.specs.Answers.{IsFile}
@@ -46,9 +46,6 @@ passed-all inv h = record { within = inv .within; lower = inv .lower; upper = λ
 
 -- ---- in a board's file
 
-middle : (p q r : List ℕ) (a k : ℕ) → length p ≡ a → length q ≡ k → take k (drop a (p ++ (q ++ r))) ≡ q
-middle p q r a k e h = ap (take k) (drop-at p (q ++ r) a e) ∙ take-at q r k h
-
 module _ (lives : ℕ → Bool) (kinds : ℕ → ℕ) where
   -- the records of lower seniors are those of the lower places
   module _ (s : ℕ) (l : s ≤ 64) where
@@ -76,66 +73,17 @@ module _ (lives : ℕ → Bool) (kinds : ℕ → ℕ) where
         (λ h. h) (lt-or-ge (length (from (s * 64) 0 (edge? kinds))) r))
         (⊎-elim (λ (h : r < length (from (s * 64) 0 (edge? kinds))). absurd (omega (arith, is-lower r h, b .upper (omega (arith, many))))) (λ h. h) (lt-or-ge r (length (from (s * 64) 0 (edge? kinds)))))
 
-  pub stretch-is : (s p q : ℕ) → s < 64 → Below (file lives kinds) (length (places lives kinds)) s p → Below (file lives kinds) (length (places lives kinds)) (s + 1) q
-      → let n = length (roles lives kinds) in
-      take (n + 3 * q - (n + 3 * p)) (drop (n + 3 * p) (file lives kinds)) ≡ edgeBytes kinds 64 (s * 64)
+  pub start-is : (s p : ℕ) → s ≤ 64 → Below (file lives kinds) (length (places lives kinds)) s p
+      → length (roles lives kinds) + 3 * p ≡ length (roles lives kinds) + length (edgeBytes kinds (s * 64) 0)
   unfolding edgeBytes
-  stretch-is s p q l a b =
-      ap (λ (f : List ℕ). take (length rs + 3 * q - (length rs + 3 * p)) (drop (length rs + 3 * p) f)) apart
-      ∙ middle (rs ++ first) part (last ++ tail) (length rs + 3 * p) (length rs + 3 * q - (length rs + 3 * p))
-      (length-append rs first ∙ ap (λ (n : ℕ). length rs + n) first-long) (omega (arith, both-long, first-long))
-    where
-      rs : List ℕ
-      rs = roles lives kinds
+  start-is s p l h = ap (λ (n : ℕ). length (roles lives kinds) + n)
+      (ap (λ (n : ℕ). 3 * n) (below-is s l p h) ∙ sym (records-length kinds (from (s * 64) 0 (edge? kinds))))
 
-      first : List ℕ
-      first = edgeBytes kinds (s * 64) 0
-
-      part : List ℕ
-      part = edgeBytes kinds 64 (s * 64)
-
-      rest : ℕ
-      rest = 4096 - (s + 1) * 64
-
-      last : List ℕ
-      last = edgeBytes kinds rest (s * 64 + 64)
-
-      tail : List ℕ
-      tail = trailer (length (edges lives kinds)) (length rs + length (edges lives kinds))
-
-      parts : edgeBytes kinds 4096 0 ≡ first ++ (part ++ last)
-      parts =
-          let e : 4096 ≡ s * 64 + (64 + rest) = omega arith in
-          ap (λ (n : ℕ). edgeBytes kinds n 0) e
-          ∙ edge-split (s * 64) (64 + rest) 0 kinds
-          ∙ ap (λ (r : List ℕ). first ++ r) (ap (edgeBytes kinds (64 + rest)) (zero-add (s * 64)) ∙ edge-split 64 rest (s * 64) kinds)
-
-      apart : file lives kinds ≡ (rs ++ first) ++ (part ++ (last ++ tail))
-      apart = ap (λ (r : List ℕ). rs ++ r ++ tail) parts ∙ simp append-assoc
-
-      first-long : length first ≡ 3 * p
-      first-long = records-length kinds (from (s * 64) 0 (edge? kinds)) ∙ ap (λ (n : ℕ). 3 * n) (sym (below-is s (omega arith) p a))
-
-      both-long : length first + length part ≡ 3 * q
-      both-long =
-          let e : s * 64 + 64 ≡ (s + 1) * 64 = omega arith in
-          sym (length-append first part)
-          ∙ ap length (ap (λ (k : ℕ). first ++ edgeBytes kinds 64 k) (sym (zero-add (s * 64))) ∙ sym (edge-split (s * 64) 64 0 kinds))
-          ∙ ap (λ (n : ℕ). length (edgeBytes kinds n 0)) e
-          ∙ records-length kinds (from ((s + 1) * 64) 0 (edge? kinds))
-          ∙ ap (λ (n : ℕ). 3 * n) (sym (below-is (s + 1) (omega arith) q b))
-
--- the first record of the next senior is not before the first of this one
-pub stretch-order : {f : List ℕ} {m s p q : ℕ} → Below f m s p → Below f m (s + 1) q → p ≤ q
-stretch-order {f} {m} {s} {p} {q} a b =
-    ⊎-elim (λ (h : q < p). absurd (omega (arith, a .lower q h, b .upper (omega (arith, a .within))))) (λ h. h) (lt-or-ge q p)
-
-pub stretch-of : {f : List ℕ} {b : Board} {n m : ℕ} → IsFile f b → GoodFrame f n m → (s p q : ℕ) → s < 64 → Below f m s p → Below f m (s + 1) q
-    → take (n + 3 * q - (n + 3 * p)) (drop (n + 3 * p) f) ≡ stretchOf b s
-unfolding fileOf bytesOf edgeBytes stretchOf
-stretch-of {f} {b} {n} {m} is good s p q l h k =
-    ap₂ (λ (x : ℕ) (g : List ℕ). take (x + 3 * q - (x + 3 * p)) (drop (x + 3 * p) g)) n-is (is .bytes)
-    ∙ stretch-is lives kinds s p q l (subst₂ (λ (g : List ℕ) (x : ℕ). Below g x s p) (is .bytes) m-is h) (subst₂ (λ (g : List ℕ) (x : ℕ). Below g x (s + 1) q) (is .bytes) m-is k)
+-- from the reader's file to the board's
+pub start-of : {f : List ℕ} {b : Board} {n m : ℕ} → IsFile f b → GoodFrame f n m → (s p : ℕ) → s ≤ 64 → Below f m s p → n + 3 * p ≡ startOf b s
+unfolding fileOf bytesOf edgeBytes startOf
+start-of {f} {b} {n} {m} is good s p l h =
+    ap (λ (x : ℕ). x + 3 * p) n-is ∙ start-is lives kinds s p l (subst₂ (λ (g : List ℕ) (x : ℕ). Below g x s p) (is .bytes) m-is h)
   where
     lives : ℕ → Bool
     lives = bit (b .live)
@@ -148,3 +96,57 @@ stretch-of {f} {b} {n} {m} is good s p q l h k =
 
     m-is : m ≡ length (places lives kinds)
     m-is = omega (arith, sym (good .edges) ∙ ap edgeCount (is .bytes) ∙ edge-count (roles lives kinds) (edges lives kinds), records-length kinds (places lives kinds))
+
+-- ---- the file in three: what stands before the senior's records, these, and what stands behind
+
+middle : (p q r : List ℕ) (a k : ℕ) → length p ≡ a → length q ≡ k → take k (drop a (p ++ (q ++ r))) ≡ q
+middle p q r a k e h = ap (take k) (drop-at p (q ++ r) a e) ∙ take-at q r k h
+
+module _ (b : Board) (s : ℕ) (l : s < 64) where
+  kinds : ℕ → ℕ
+  kinds = kindAt (tablesOf b)
+
+  rest : ℕ
+  rest = 4096 - (s + 1) * 64
+
+  abbrev pub front : List ℕ
+  front = from 64 0 (bit (b .live)) ++ edgeBytes (kindAt (tablesOf b)) (s * 64) 0
+
+  abbrev pub back : List ℕ
+  back =
+      let es = edgeBytes (kindAt (tablesOf b)) 4096 0 in
+      edgeBytes (kindAt (tablesOf b)) (4096 - (s + 1) * 64) (s * 64 + 64) ++ trailer (length es) (length (from 64 0 (bit (b .live))) + length es)
+
+  pub in-three : fileOf b ≡ front ++ (stretchOf b s ++ back)
+  unfolding fileOf bytesOf stretchOf kinds rest
+  in-three = ap (λ (r : List ℕ). from 64 0 (bit (b .live)) ++ r ++ trailer (length es) (length (from 64 0 (bit (b .live))) + length es)) parts ∙ simp append-assoc
+    where
+      es : List ℕ
+      es = edgeBytes kinds 4096 0
+
+      parts : edgeBytes kinds 4096 0 ≡ edgeBytes kinds (s * 64) 0 ++ (edgeBytes kinds 64 (s * 64) ++ edgeBytes kinds rest (s * 64 + 64))
+      parts =
+          let e : 4096 ≡ s * 64 + (64 + rest) = omega arith in
+          ap (λ (n : ℕ). edgeBytes kinds n 0) e
+          ∙ edge-split (s * 64) (64 + rest) 0 kinds
+          ∙ ap (λ (r : List ℕ). edgeBytes kinds (s * 64) 0 ++ r) (ap (edgeBytes kinds (64 + rest)) (zero-add (s * 64)) ∙ edge-split 64 rest (s * 64) kinds)
+
+  pub before-it : length front ≡ startOf b s
+  unfolding startOf
+  before-it = length-append (from 64 0 (bit (b .live))) (edgeBytes (kindAt (tablesOf b)) (s * 64) 0)
+
+  pub up-to-it : startOf b s + length (stretchOf b s) ≡ startOf b (s + 1)
+  unfolding startOf stretchOf
+  up-to-it =
+      let e : s * 64 + 64 ≡ (s + 1) * 64 = omega arith in
+      let two = ap length (ap (λ (n : ℕ). edgeBytes (kindAt (tablesOf b)) n 0) (sym e) ∙ edge-split (s * 64) 64 0 (kindAt (tablesOf b))) in
+      omega (arith, two, length-append (edgeBytes (kindAt (tablesOf b)) (s * 64) 0) (edgeBytes (kindAt (tablesOf b)) 64 (0 + s * 64)), ap (λ (k : ℕ). length (edgeBytes (kindAt (tablesOf b)) 64 k)) (zero-add (s * 64)))
+
+  pub stretch-is : take (startOf b (s + 1) - startOf b s) (drop (startOf b s) (fileOf b)) ≡ stretchOf b s
+  stretch-is =
+      ap (λ (f : List ℕ). take (startOf b (s + 1) - startOf b s) (drop (startOf b s) f)) in-three
+      ∙ middle front (stretchOf b s) back (startOf b s) (startOf b (s + 1) - startOf b s) before-it (omega (arith, up-to-it))
+
+  pub stretch-inside : startOf b (s + 1) ≤ length (fileOf b)
+  stretch-inside =
+      omega (arith, ap length in-three, length-append front (stretchOf b s ++ back), length-append (stretchOf b s) back, before-it, up-to-it)

@@ -9,7 +9,7 @@ use Rattle.hierarchy.specs.Words.{Loops, Managed, Sound}
 use Rattle.hierarchy.specs.First.{First}
 use Rattle.board.specs.Boards.{tablesOf, foundingBoard}
 use Rattle.board.specs.declared.Board.{Board}
-use Rattle.boardfile.specs.Files.{fileOf, stretchOf}
+use Rattle.boardfile.specs.Files.{fileOf, stretchOf, startOf}
 use Rattle.boardfile.specs.Faults.{BadFrame, BadRecord}
 
 -- f is the file of b, whose roles are 0 to 63
@@ -48,6 +48,13 @@ pub record StretchAnswer (f : List ℕ) (role : ℕ) (part : List ℕ) : Type 0 
   pub numbered : First (stretchRefusals f role) number
   pub done : number ≡ 0 → (b : Board) × IsFile f b × (part ≡ stretchOf b role)
   pub refused : number ≢ 0 → part ≡ []
+
+-- where that part of the file begins and ends, both 0 under a refusal
+pub record BoundsAnswer (f : List ℕ) (role start end : ℕ) : Type 0 where
+  pub number : ℕ
+  pub numbered : First (stretchRefusals f role) number
+  pub done : number ≡ 0 → (b : Board) × IsFile f b × (start ≡ startOf b role) × (end ≡ startOf b (role + 1))
+  pub refused : number ≢ 0 → (start ≡ 0) × (end ≡ 0)
 
 -- ---- writing to a place of a buffer
 

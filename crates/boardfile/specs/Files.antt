@@ -45,6 +45,9 @@ bytesOf lives kinds =
 unfoldable pub fileOf : Board → List ℕ
 fileOf b = bytesOf (bit (b .live)) (kindAt (tablesOf b))
 
--- the part of it that has the edges of one senior
+-- the part of it that has the edges of one senior, and where that begins: behind the role bytes and the edges of lower seniors
 unfoldable pub stretchOf : Board → ℕ → List ℕ
 stretchOf b role = edgeBytes (kindAt (tablesOf b)) 64 (role * 64)
+
+unfoldable pub startOf : Board → ℕ → ℕ
+startOf b role = length (from 64 0 (bit (b .live))) + length (edgeBytes (kindAt (tablesOf b)) (role * 64) 0)

@@ -2,4 +2,5 @@
 pub mod Files
 pub mod Faults
 pub mod Answers
+pub mod Reached
 pub mod Parts

@@ -10,7 +10,7 @@ mod writer;
 ghost use mathlib.Core.Path.{_≡_};
 ghost use Rattle.board.specs.Boards.{foundingBoard};
 ghost use Rattle.hierarchy.specs.First.{First};
-ghost use Rattle.boardfile.specs.Answers.{ReadAnswer, WriteAnswer, stretchRefusals, StretchAnswer};
+ghost use Rattle.boardfile.specs.Answers.{ReadAnswer, WriteAnswer, stretchRefusals, BoundsAnswer, StretchAnswer};
 ghost use Rattle.boardfile.specs.Parts.{Asked};
 use board::Board;
 use board::checks::sound;
@@ -114,22 +114,37 @@ pub fn stretch_number(file: &[u8], role: u8) -> u8
     asked(read(file), role)
 }
 
-// The edge records of one senior, as a part of the file.
-pub fn stretch(file: &[u8], role: u8) -> &[u8]
-    ensures { λ r. ⌜ StretchAnswer (now (file .entry)) role (now r) ⌝ }
+// Where the edge records of one senior begin and end in the file; 0 and 0 with a refusal.
+pub struct Span {
+    pub start: usize,
+    pub end: usize,
+}
+
+pub fn bounds(file: &[u8], role: u8) -> Span
+    ensures { λ r. ⌜ BoundsAnswer (now (file .entry)) role (r .start) (r .end) ⌝ }
 {
     let Framed::Good {
         roles,
         edges: records,
     } = frame(file)
     else {
-        return &file[0..0];
+        return Span { start: 0, end: 0 };
     };
     if asked(read(file), role) != 0 {
-        return &file[0..0];
+        return Span { start: 0, end: 0 };
     }
     let senior = role as usize;
     let start = roles + 3 * below(file, roles, records, senior);
     let end = roles + 3 * below(file, roles, records, senior + 1);
+    Span { start, end }
+}
+
+// The edge records of one senior, as a part of the file.
+pub fn stretch(file: &[u8], role: u8) -> &[u8]
+    ensures { λ r. ⌜ StretchAnswer (now (file .entry)) role (now r) ⌝ }
+{
+    let span = bounds(file, role);
+    let start = span.start;
+    let end = span.end;
     &file[start..end]
 }

@@ -8,20 +8,16 @@ use borrow.Author.Needs.{needs}
 use Rattle.boardfile.proofs.asked.Statement.{statement}
 use Rattle.boardfile.proofs.asked.Tie as tie
 
--- src/lib.rt:91:9
 returns : tie.Need-returns
 returns c = record { kept = λ _. refl; own = λ e. absurd (c .if1 .taken e) }
 
--- src/lib.rt:94:9
 returns-2 : tie.Need-returns-2
 unfolding First
 returns-2 c = record { kept = λ n. absurd (n (c .before .if1 .left)); own = λ _. inl (c .if2 .taken, refl) }
 
--- src/lib.rt:96:9
 has-requires : tie.Need-has-requires
 has-requires c κs = search needs
 
--- src/lib.rt:97:9
 returns-3 : tie.Need-returns-3
 unfolding First
 returns-3 c = record {
@@ -29,7 +25,6 @@ returns-3 c = record {
   own = λ _. inr (omega arith, inl (false-no (sym (c .before .has .ensures) ∙ not-true (c .before .has .result) (c .if3 .taken)), refl));
 }
 
--- src/lib.rt:86:1
 returns-4 : tie.Need-returns-4
 unfolding First
 returns-4 c = record {

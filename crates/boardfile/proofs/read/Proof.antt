@@ -98,7 +98,7 @@ returns-4 c =
     let k = l .before .before .before .before in
     answered (k .before .before .before .before .before .args .file .now) (c .refused4 .ensures)
     (troubled (c .before .before .trouble .result) (good-frame k .faultless) (faultless (good-frame k) (good-roles l) (good-edges s)) (is-file (good-frame k) (good-roles l) (good-edges s))
-    (c .before .before .trouble .ensures) (c .before .if2 .taken))
+    (c .before .before .trouble .ensures) (omega arith))
 
 returns-5 : tie.Need-returns-5
 returns-5 c =
@@ -106,7 +106,7 @@ returns-5 c =
     let l = s .before .before .before in
     let k = l .before .before .before .before in
     untroubled (c .before .trouble .result) (good-frame k .faultless) (faultless (good-frame k) (good-roles l) (good-edges s)) (is-file (good-frame k) (good-roles l) (good-edges s))
-    (c .before .trouble .ensures) (c .if2 .left) (joined (good-frame k) (good-roles l) (good-edges s)) (good-roles l .root)
+    (c .before .trouble .ensures) (omega arith) (joined (good-frame k) (good-roles l) (good-edges s)) (good-roles l .root)
 
 pub read-spec : {M : Type 1} → statement M
 read-spec =

@@ -14,11 +14,9 @@ use borrow.Author.Needs.{needs}
 use Rattle.boardfile.proofs.write.Statement.{statement}
 use Rattle.boardfile.proofs.write.Tie as tie
 
--- src/lib.rt:68:9
 sound-requires : tie.Need-sound-requires
 sound-requires c κs = search needs
 
--- src/lib.rt:69:9
 returns : tie.Need-returns
 returns c = unsound-file (λ h. false-no (not-true (c .before .sound .result) (c .if1 .taken)) (c .before .sound .ensures .1 h))
 
@@ -31,35 +29,27 @@ few c = sizes-few (c .before .before .before .before .before .args .b) (is-sound
 long : (c : tie.After-edge-count) → c .before .size .result + 3 * c .edge-count .result + 6 ≡ length (fileOf (c .before .before .before .before .before .args .b))
 long c = file-long (c .before .before .before .before .before .args .b) (is-sound (c .before .before) .shaped .live-fits) (c .before .size .ensures) (c .edge-count .ensures)
 
--- src/lib.rt:71:17
 size-requires : tie.Need-size-requires
 size-requires c κs = search needs
 
--- src/lib.rt:71:17
 cast-roles : tie.Need-cast-roles
 cast-roles c = search needs
 
--- src/lib.rt:72:21
 edge-count-requires : tie.Need-edge-count-requires
 edge-count-requires c κs = search needs
 
--- src/lib.rt:72:17
 mul-edges : tie.Need-mul-edges
 mul-edges c = let h = few c in omega arith
 
--- src/lib.rt:73:15
 add-len : tie.Need-add-len
 add-len c = let h = few c in omega arith
 
--- src/lib.rt:73:15
 add-len-2 : tie.Need-add-len-2
 add-len-2 c = let h = few c in omega arith
 
--- src/lib.rt:74:26
 sub-if3 : tie.Need-sub-if3
 sub-if3 c = search needs
 
--- src/lib.rt:75:9
 returns-2 : tie.Need-returns-2
 returns-2 c =
     let s = c .before .before .before .before .before .before in
@@ -68,19 +58,15 @@ returns-2 c =
     (λ w. too-few (subst (λ (n : ℕ). length (s .args .out .now) - s .args .at < n) (long (c .before)) (ltb-true _ _ (w .1 .taken))))
     (c .if2 .came))
 
--- src/lib.rt:77:31
 sub-put-file : tie.Need-sub-put-file
 sub-put-file c = search needs
 
--- src/lib.rt:77:31
 part-put-file-start : tie.Need-part-put-file-start
 part-put-file-start c = search needs
 
--- src/lib.rt:77:31
 part-put-file-end : tie.Need-part-put-file-end
 part-put-file-end c = search needs
 
--- src/lib.rt:77:5
 put-file-requires : tie.Need-put-file-requires
 put-file-requires c κs =
     let n = c .before .before .before in
@@ -88,11 +74,9 @@ put-file-requires c κs =
     file-room (s .args .b) (is-sound (n .before .before) .shaped .live-fits) (n .before .size .ensures) (n .edge-count .ensures) (s .args .out .now) (s .args .at)
     (c .before .before .if2 .left) (ltb-false _ _ (c .before .if3 .left))
 
--- src/lib.rt:65:1
 same-length : tie.Need-same-length
 same-length c = search needs
 
--- src/lib.rt:65:1
 returns-3 : tie.Need-returns-3
 returns-3 c =
     let w = c .before .before in

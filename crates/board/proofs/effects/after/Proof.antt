@@ -1,6 +1,3 @@
-use mathlib.Core.Path.{ap, _∙_}
-use mathlib.Core.Bool.{Bool}
-use Rattle.board.specs.Effects.{tableAfter}
 use Rattle.board.proofs.Edits.{board-is}
 use borrow.Author.Needs.{needs}
 use Rattle.board.proofs.effects.after.Statement.{statement}
@@ -22,11 +19,11 @@ edited-requires-2 : tie.Need-edited-requires-2
 edited-requires-2 c κs = search needs
 
 returns : tie.Need-returns
-returns c = let a = c .before .before .before .before .before .before .before .args in
-    board-is (a .b) (a .c) (c .before .before .before .before .living .result) (c .before .before .edited .result) (c .edited2 .result)
-    (c .before .before .before .before .living .ensures)
-    (c .before .before .edited .ensures ∙ ap (λ (p : Bool). tableAfter (a .c) (a .c .«i_seniors») (a .c .«i_juniors») p (a .b .i)) (c .before .before .before .has-part .ensures))
-    (c .edited2 .ensures ∙ ap (λ (p : Bool). tableAfter (a .c) (a .c .«a_seniors») (a .c .«a_juniors») p (a .b .a)) (c .before .has-part2 .ensures))
+returns c =
+    let p = c .before .before .before in
+    let a = p .before .before .before .before .args in
+    board-is (a .b) (a .c) (p .before .living .result) (c .before .before .edited .result) (c .edited2 .result) (p .has-part .result) (c .before .has-part2 .result)
+    (p .before .living .ensures) (p .has-part .ensures) (c .before .before .edited .ensures) (c .before .has-part2 .ensures) (c .edited2 .ensures)
 
 pub after-spec : {M : Type 1} → statement M
 after-spec =

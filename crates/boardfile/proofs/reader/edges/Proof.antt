@@ -110,7 +110,7 @@ loop-again : tie.Need-loop-again Inv-loop μ-loop
 loop-again c = let e = c .before .before .before .before in
     let s = e .before .before .before .before .before .before .before .before .before .before in
     edges-turn (s .pre .0) (e .before .before .before .before .before .before .loop .inv) (e .before .before .before .before .before .loop-test .taken) (e .before .before .before .before .«record» .ensures)
-    (s .pre .1 .fits) (is-right e) (e .before .before .if1 .left) (c .before .before .entered .result) (c .entered2 .result)
+    (s .pre .1 .fits) (is-right e) (omega (arith, e .before .before .if1 .left)) (c .before .before .entered .result) (c .entered2 .result)
     (omega (arith, c .before .before .entered .ok)) (omega (arith, c .entered2 .ok)) (c .before .before .entered .ensures) (c .entered2 .ensures)
 
 returns-2 : tie.Need-returns-2 Inv-loop μ-loop

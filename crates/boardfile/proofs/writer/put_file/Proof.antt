@@ -3,66 +3,51 @@ use borrow.Author.Needs.{needs}
 use Rattle.boardfile.proofs.writer.put_file.Statement.{statement}
 use Rattle.boardfile.proofs.writer.put_file.Tie as tie
 
--- src/writer.rt:121:16
 add-body : tie.Need-add-body
 add-body c = search needs
 
--- src/writer.rt:122:23
 sub-put-roles : tie.Need-sub-put-roles
 sub-put-roles c = search needs
 
--- src/writer.rt:122:23
 part-put-roles-start : tie.Need-part-put-roles-start
 part-put-roles-start c = search needs
 
--- src/writer.rt:122:23
 part-put-roles-end : tie.Need-part-put-roles-end
 part-put-roles-end c = search needs
 
--- src/writer.rt:122:5
 put-roles-requires : tie.Need-put-roles-requires
 put-roles-requires c κs = search needs
 
--- src/writer.rt:123:18
 sub-put-edges : tie.Need-sub-put-edges
 sub-put-edges c = search needs
 
--- src/writer.rt:123:18
 part-put-edges-start : tie.Need-part-put-edges-start
 part-put-edges-start c = search needs
 
--- src/writer.rt:123:18
 part-put-edges-end : tie.Need-part-put-edges-end
 part-put-edges-end c = search needs
 
--- src/writer.rt:123:5
 put-edges-requires : tie.Need-put-edges-requires
 put-edges-requires c κs = search needs
 
--- src/writer.rt:124:30
 sub-put-trailer : tie.Need-sub-put-trailer
 sub-put-trailer c = search needs
 
--- src/writer.rt:124:30
 part-put-trailer-start : tie.Need-part-put-trailer-start
 part-put-trailer-start c = search needs
 
--- src/writer.rt:124:30
 part-put-trailer-end : tie.Need-part-put-trailer-end
 part-put-trailer-end c = search needs
 
--- src/writer.rt:124:5
 put-trailer-requires : tie.Need-put-trailer-requires
 put-trailer-requires c κs =
     let e = c .before .before .before in
     let r = e .before .before .before .before in
     trailer-fits (r .before .before .before .pre) (r .put-roles .last .1 .0) (e .put-edges .last .1 .0) (r .put-roles .ensures) (e .put-edges .ensures)
 
--- src/writer.rt:117:1
 same-length : tie.Need-same-length
 same-length c = search needs
 
--- src/writer.rt:117:1
 returns : tie.Need-returns
 returns c =
     let w = c .before .before in

@@ -1,0 +1,168 @@
+-- The computed number of a command is the number that document 01's table of refusals gives it. Assumes nothing.
+use mathlib.Core.Path.{_≡_, refl, sym, subst}
+use mathlib.Core.Logic.{_⊎_, inl, inr, ⊎-elim, _↔_, Iff·rfl}
+use mathlib.Core.Bool.{Bool, true, false, cond, false≢true}
+use mathlib.Core.List.{List, _∷_}
+use Prim.Native.Nat.{ℕ, _^_, _≤_, _<_}
+use native.Mathlib.Omega.{arith}
+use lib.Dec.{leb, ltb}
+use borrow.Author.Tests.{leb-true, le-leb}
+use Rattle.sets.specs.Sets.{bit}
+use Rattle.sets.proofs.Bools.{or-cases, lt-or-ge, not-so, false-no}
+use Rattle.sets.proofs.Laws.{bit-lt}
+use Rattle.hierarchy.specs.Tables.{Shaped}
+use Rattle.hierarchy.specs.First.{First}
+use Rattle.hierarchy.proofs.FirstLaws.{pass, hit, none}
+use Rattle.hierarchy.proofs.Checks.{all-is, any-is, and-is, or-is, if-is, not-is, eq-is, lt-is}
+use Rattle.hierarchy.proofs.Decide.{scope-is, admin-is, loops-is, managed-is, sound-is, sound-dec}
+use Rattle.board.specs.Boards.{tablesOf}
+use Rattle.board.specs.Effects.{after}
+use Rattle.board.specs.Commands.{Malformed, Missing, Standing, NoEdge, InScope, Outside, asSenior, asJunior, needed, scoped, strictly, edgeKind, afterwards, refusals}
+use Rattle.board.specs.Commands.{Malformed.no-code, Malformed.no-actor, Malformed.no-role, Malformed.no-junior, Malformed.no-kind, Standing.role, Standing.edge}
+use Rattle.board.proofs.Rules.{stable}
+use Rattle.board.proofs.Kept.{shaped-after}
+use Rattle.board.specs.declared.Board.{Board}
+use Rattle.board.specs.declared.Command.{Command}
+use Rattle.examples.specs.Answer.{malformed?, missing?, standing?, noEdge?, inScope?, outside?, first?, afterwards?, answer?, Fits, fits?}
+use Rattle.examples.proofs.Leaving.{left-is}
+
+is : (p : Bool) → (p ≡ true) ↔ (p ≡ true)
+is p = Iff·rfl
+
+le-is : (m n : ℕ) → (leb m n ≡ true) ↔ (m ≤ n)
+le-is m n = (leb-true m n, le-leb m n)
+
+fit-is : (s : ℕ) → (ltb s (2 ^ 64) ≡ true) ↔ (s < 2 ^ 64)
+fit-is s = lt-is s (2 ^ 64)
+
+pub fits-is : (c : Command) → (fits? c ≡ true) ↔ Fits c
+unfolding fits?
+fits-is c =
+    let i = and-is (fit-is (c .«a_seniors»)) (λ _. and-is (fit-is (c .«i_seniors»)) (λ _. and-is (fit-is (c .«a_juniors»)) (λ _. fit-is (c .«i_juniors»)))) in (
+      λ e. let h = i .0 e in record { a-seniors = h .0; i-seniors = h .1 .0; a-juniors = h .1 .1 .0; i-juniors = h .1 .1 .1 },
+      λ f. i .1 (f .a-seniors, (f .i-seniors, (f .a-juniors, f .i-juniors))),
+    )
+
+-- ---- a row each
+
+malformed-is : (c : Command) → (malformed? c ≡ true) ↔ Malformed c
+unfolding malformed?
+malformed-is c =
+    let code = or-is (lt-is (c .code) 1) (lt-is 5 (c .code)) in
+    let junior = and-is (le-is 3 (c .code)) (λ _. lt-is 63 (c .junior)) in
+    let kind = and-is (or-is (eq-is (c .code) 3) (eq-is (c .code) 5)) (λ _. or-is (lt-is (c .kind) 1) (lt-is 3 (c .kind))) in
+    let i = or-is code (or-is (lt-is 63 (c .actor)) (or-is (lt-is 63 (c .role)) (or-is junior kind))) in (
+      λ e. ⊎-elim no-code (⊎-elim no-actor (⊎-elim no-role (⊎-elim (λ h. no-junior (h .0) (h .1)) (λ h. no-kind (h .0) (h .1))))) (i .0 e),
+      λ m. i .1 (elim m [
+        | no-code h ↦ inl h
+        | no-actor h ↦ inr (inl h)
+        | no-role h ↦ inr (inr (inl h))
+        | no-junior e h ↦ inr (inr (inr (inl (e, h))))
+        | no-kind e h ↦ inr (inr (inr (inr (e, h))))
+      ]),
+    )
+
+standing-is : (b : Board) (c : Command) → (standing? b c ≡ true) ↔ Standing b c
+unfolding standing?
+standing-is b c =
+    let old = and-is (eq-is (c .code) 1) (λ _. is (bit (b .live) (c .role))) in
+    let i = or-is old (and-is (eq-is (c .code) 3) (λ _. not-is (eq-is (edgeKind b c) 0))) in (
+      λ e. ⊎-elim (λ h. role (h .0) (h .1)) (λ h. edge (h .0) (h .1)) (i .0 e),
+      λ s. i .1 (elim s [ role e h ↦ inl (e, h) | edge e h ↦ inr (e, h) ]),
+    )
+
+noEdge-is : (b : Board) (c : Command) → (noEdge? b c ≡ true) ↔ NoEdge b c
+unfolding noEdge?
+noEdge-is b c =
+    let i = and-is (le-is 4 (c .code)) (λ _. eq-is (edgeKind b c) 0) in
+    (λ e. let h = i .0 e in record { names = h .0; none = h .1 }, λ n. i .1 (n .names, n .none))
+
+outside-is : (b : Board) (c : Command) → Shaped (tablesOf b) → (outside? b c ≡ true) ↔ Outside b c
+unfolding outside?
+outside-is b c s =
+    let i = and-is (eq-is (c .code) 1) (λ _. not-is (admin-is s (c .actor) (c .role))) in
+    (λ e. let h = i .0 e in record { adds = h .0; outside = h .1 }, λ o. i .1 (o .adds, o .outside))
+
+-- ---- the rows that speak of all the roles that a well-formed command names
+
+below : (x y : ℕ) → (63 < y → ⊥) → x ≡ y → x < 64
+below x y h e = ⊎-elim (λ l. l) (λ (g : 64 ≤ x). absurd (h (omega arith))) (lt-or-ge x 64)
+
+module _ {c : Command} (fits : Fits c) (well : Malformed c → ⊥) (x : ℕ) where
+  senior-lt : asSenior c x ≡ true → x < 64
+  senior-lt e = ⊎-elim (bit-lt 64 (fits .a-seniors)) (bit-lt 64 (fits .i-seniors)) (or-cases (bit (c .«a_seniors») x) (bit (c .«i_seniors») x) e)
+
+  junior-lt : asJunior c x ≡ true → x < 64
+  junior-lt e = ⊎-elim (bit-lt 64 (fits .a-juniors)) (bit-lt 64 (fits .i-juniors)) (or-cases (bit (c .«a_juniors») x) (bit (c .«i_juniors») x) e)
+
+  role-lt : x ≡ c .role → x < 64
+  role-lt = below x (c .role) (λ g. well (no-role g))
+
+  end-lt : 3 ≤ c .code → x ≡ c .junior → x < 64
+  end-lt l = below x (c .junior) (λ g. well (no-junior l g))
+
+  needed-lt : needed c x ≡ true → x < 64
+  unfolding needed
+  needed-lt e =
+      let sets = and-is (eq-is (c .code) 1) (λ _. or-is (is (asSenior c x)) (is (asJunior c x))) in
+      let ends = or-is (and-is (le-is 2 (c .code)) (λ _. eq-is x (c .role))) (and-is (le-is 3 (c .code)) (λ _. eq-is x (c .junior))) in
+      ⊎-elim (below x (c .actor) (λ g. well (no-actor g)))
+      (⊎-elim (λ h. ⊎-elim senior-lt junior-lt (h .1)) (⊎-elim (λ h. role-lt (h .1)) (λ h. end-lt (h .0) (h .1))))
+      (or-is (eq-is x (c .actor)) (or-is sets ends) .0 e)
+
+  scoped-lt : scoped c x ≡ true → x < 64
+  unfolding scoped
+  scoped-lt e =
+      let seniors = and-is (eq-is (c .code) 1) (λ _. is (asSenior c x)) in
+      let ends = and-is (le-is 3 (c .code)) (λ _. or-is (eq-is x (c .role)) (eq-is x (c .junior))) in
+      ⊎-elim (λ h. senior-lt (h .1)) (λ h. ⊎-elim role-lt (end-lt (h .0)) (h .1)) (or-is seniors ends .0 e)
+
+  strictly-lt : strictly c x ≡ true → x < 64
+  unfolding strictly
+  strictly-lt e =
+      let juniors = and-is (eq-is (c .code) 1) (λ _. is (asJunior c x)) in
+      let gone = and-is (eq-is (c .code) 2) (λ _. eq-is x (c .role)) in
+      ⊎-elim (λ h. junior-lt (h .1)) (λ h. role-lt (h .1)) (or-is juniors gone .0 e)
+
+module _ (b : Board) {c : Command} (fits : Fits c) (well : Malformed c → ⊥) where
+  missing-is : (missing? b c ≡ true) ↔ Missing b c
+  unfolding missing?
+  missing-is =
+      let i = any-is 64 (λ x. and-is (is (needed c x)) (λ _. not-is (is (bit (b .live) x)))) (λ x h. needed-lt fits well x (h .0)) in (
+        λ e. let h = i .0 e in record { who = h .0; is-needed = h .1 .0; absent = not-so (bit (b .live) (h .0)) (h .1 .1) },
+        λ m. i .1 (m .who, (m .is-needed, false-no (m .absent))),
+      )
+
+  inScope-is : Shaped (tablesOf b) → (inScope? b c ≡ true) ↔ InScope b c
+  unfolding inScope?
+  inScope-is s =
+      let i = all-is 64 (λ x. and-is (if-is (is (scoped c x)) (scope-is s (c .actor) x)) (λ _. if-is (is (strictly c x)) (admin-is s (c .actor) x))) in (
+        λ e. let h = i .0 e in record { scope = λ x d. h x (scoped-lt fits well x d) .0 d; strict = λ x d. h x (strictly-lt fits well x d) .1 d },
+        λ h. i .1 (λ x _. (h .scope x, h .strict x)),
+      )
+
+-- ---- all rows
+
+-- one row: its test decides it, and where it fails the rest is tried
+tried : (k n : ℕ) (rest : List (ℕ × Type 0)) {X : Type 0} {p : Bool} → (p ≡ true) ↔ X → ((X → ⊥) → First rest n) → First ((k, X) ∷ rest) (cond p k n)
+tried k n rest {X} {p = true} d f = hit k X rest (d .0 refl)
+tried k n rest {X} {p = false} d f = let fails : X → ⊥ = λ x. false≢true (d .1 x) in pass k X rest n fails (f fails)
+
+afterwards-is : (b : Board) (c : Command) → Shaped (tablesOf b) → First (afterwards b c) (first? (afterwards? b c))
+unfolding first?
+afterwards-is b c s =
+    tried 7 _ _ (loops-is s) (λ _.
+    tried 8 _ _ (outside-is b c s) (λ _.
+    tried 9 _ _ (not-is (managed-is s)) (λ _. none)))
+
+-- The computed number of a command is that of its first refusal in document 01's table.
+pub answer-is : (b : Board) (c : Command) → Fits c → First (refusals b c) (answer? b c)
+unfolding answer? first?
+answer-is b c fits =
+    tried 1 _ _ (not-is (sound-is (tablesOf b))) (λ sound. let s = stable (sound-dec (tablesOf b)) sound .shaped in
+    tried 2 _ _ (malformed-is c) (λ well.
+    tried 3 _ _ (missing-is b fits well) (λ _.
+    tried 4 _ _ (standing-is b c) (λ _.
+    tried 5 _ _ (noEdge-is b c) (λ _.
+    tried 6 _ _ (not-is (inScope-is b fits well s)) (λ _.
+    subst (λ d. First (afterwards (after b c) c) (first? (afterwards? d c))) (sym (left-is b c s)) (afterwards-is (after b c) c (shaped-after b c))))))))

@@ -1,0 +1,21 @@
+use mathlib.Core.Path.{refl}
+use Rattle.examples.specs.Boards.{P}
+use borrow.Author.Needs.{needs}
+use Rattle.examples.proofs.boards.p.Statement.{statement}
+use Rattle.examples.proofs.boards.p.Tie as tie
+
+array-write-i : tie.Need-array-write-i
+array-write-i c = search needs
+
+array-write-i-2 : tie.Need-array-write-i-2
+array-write-i-2 c = search needs
+
+array-write-a : tie.Need-array-write-a
+array-write-a c = search needs
+
+returns : tie.Need-returns
+unfolding P
+returns c = refl
+
+pub p-spec : {M : Type 1} → statement M
+p-spec = tie.close (tie.spec array-write-i array-write-i-2 array-write-a returns)

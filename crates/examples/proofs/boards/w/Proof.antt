@@ -1,0 +1,24 @@
+use mathlib.Core.Path.{refl}
+use Rattle.examples.specs.Boards.{W}
+use borrow.Author.Needs.{needs}
+use Rattle.examples.proofs.boards.w.Statement.{statement}
+use Rattle.examples.proofs.boards.w.Tie as tie
+
+array-write-i : tie.Need-array-write-i
+array-write-i c = search needs
+
+array-write-a : tie.Need-array-write-a
+array-write-a c = search needs
+
+array-write-a-2 : tie.Need-array-write-a-2
+array-write-a-2 c = search needs
+
+array-write-a-3 : tie.Need-array-write-a-3
+array-write-a-3 c = search needs
+
+returns : tie.Need-returns
+unfolding W
+returns c = refl
+
+pub w-spec : {M : Type 1} → statement M
+w-spec = tie.close (tie.spec array-write-i array-write-a array-write-a-2 array-write-a-3 returns)

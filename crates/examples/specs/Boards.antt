@@ -1,0 +1,53 @@
+-- The boards of document 01's examples, and commands as its table of commands names their fields.
+use mathlib.Core.List.{_∷_}
+use Prim.Native.Nat.{ℕ}
+use lib.ListN.{replicate}
+use Rattle.board.specs.declared.Board.{Board}
+use Rattle.board.specs.declared.Command.{Command}
+
+-- A set of roles is written in binary, role 0 at the right end. The rows of a table start with role 0's.
+
+-- 0 I 1, 1 I 2, 1 A 3
+unfoldable pub P : Board
+P = record { live = 0b1111; i = 0b0010 ∷ 0b0100 ∷ replicate 62 0; a = 0 ∷ 0b1000 ∷ replicate 62 0 }
+
+-- 0 I 1, 0 I 2, 0 I 3, 1 A 3, 1 A 4, 3 A 5, 4 A 5
+unfoldable pub W : Board
+W = record { live = 0b111111; i = 0b001110 ∷ replicate 63 0; a = 0 ∷ 0b011000 ∷ 0 ∷ 0b100000 ∷ 0b100000 ∷ replicate 59 0 }
+
+-- 0 I 1, 1 I 2, 2 A 3, 0 A 3
+unfoldable pub L : Board
+L = record { live = 0b1111; i = 0b0010 ∷ 0b0100 ∷ replicate 62 0; a = 0b1000 ∷ 0 ∷ 0b1000 ∷ replicate 61 0 }
+
+-- the kinds by their letters
+abbrev pub I : ℕ
+I = 1
+
+abbrev pub A : ℕ
+A = 2
+
+-- The commands of the examples, none of which names juniors. What a command does not use is 0.
+abbrev pub command : (code actor role junior kind a-seniors i-seniors : ℕ) → Command
+command code actor role junior kind a-seniors i-seniors = record {
+  code = code;
+  actor = actor;
+  role = role;
+  junior = junior;
+  kind = kind;
+  «a_seniors» = a-seniors;
+  «i_seniors» = i-seniors;
+  «a_juniors» = 0;
+  «i_juniors» = 0;
+}
+
+abbrev pub addRole : (actor role a-seniors i-seniors : ℕ) → Command
+addRole actor role a-seniors i-seniors = command 1 actor role 0 0 a-seniors i-seniors
+
+abbrev pub removeRole : (actor role : ℕ) → Command
+removeRole actor role = command 2 actor role 0 0 0 0
+
+abbrev pub addEdge : (actor senior junior kind : ℕ) → Command
+addEdge actor senior junior kind = command 3 actor senior junior kind 0 0
+
+abbrev pub changeEdge : (actor senior junior kind : ℕ) → Command
+changeEdge actor senior junior kind = command 5 actor senior junior kind 0 0

@@ -1,0 +1,156 @@
+-- Document 01's examples in one table, the marked ones and the others. An entry is a stage, which stands for a board, and a fact:
+-- what it says of that board, in the words of the definitions. Each has a test that can be run.
+-- `Rattle.examples.proofs.Holding` has the theorem: every entry holds.
+use mathlib.Core.Path.{_≡_}
+use mathlib.Core.Logic.{_↔_}
+use mathlib.Core.Bool.{Bool, true, false, not, _&&_, Bool·beq}
+use mathlib.Core.List.{List, [], _∷_}
+use Prim.Native.Nat.{ℕ, zero, suc}
+use lib.Dec.{eqb}
+use Rattle.sets.specs.Sets.{_∈_, setOf}
+use Rattle.hierarchy.specs.Tables.{Tables}
+use Rattle.hierarchy.specs.Words.{Derives, Scope, Administrator, LineManager, Loops, Sound, Climb}
+use Rattle.hierarchy.specs.First.{First}
+use Rattle.hierarchy.specs.Compute.{any, derives?, scope?, admin?, manager?, loops?, shaped?, sound?}
+use Rattle.board.specs.Boards.{tablesOf}
+use Rattle.board.specs.Effects.{after}
+use Rattle.board.specs.Commands.{refusals}
+use Rattle.board.specs.declared.Board.{Board}
+use Rattle.board.specs.declared.Command.{Command}
+use Rattle.examples.specs.Boards.{P, W, L, I, A, addRole, removeRole, addEdge, changeEdge}
+use Rattle.examples.specs.Answer.{left, answer?, fits?}
+
+-- ---- stages and facts, and what they mean
+
+-- a board, or what a command would leave of a stage
+infixl 5 _then_
+pub data Stage : Type 0 where
+  on : Board → Stage
+  _then_ : Stage → Command → Stage
+
+abbrev pub boardOf : Stage → Board
+boardOf (on b) = b
+boardOf (s then c) = after (boardOf s) c
+
+pub data Fact : Type 0 where
+  sound : Fact
+  derives : (x y : ℕ) → Bool → Fact
+  scope : (a set : ℕ) → Fact
+  manager : (r m : ℕ) → Fact
+  steps : (r n : ℕ) → Fact
+  alone : (r : ℕ) → Fact
+  loops : Fact
+  gives : Command → (n : ℕ) → Fact
+  same : Board → Fact
+
+abbrev pub Holds : Board → Fact → Type 0
+Holds b sound = Sound (tablesOf b)
+-- x derives y, or it does not
+Holds b (derives x y true) = Derives (tablesOf b) x y
+Holds b (derives x y false) = Derives (tablesOf b) x y → ⊥
+-- the scope of a is just this set
+Holds b (scope a set) = (r : ℕ) → Scope (tablesOf b) a r ↔ (r ∈ set)
+-- the line manager of r is m
+Holds b (manager r m) = LineManager (tablesOf b) m r
+-- from r up to role 0 by line managers it is n steps
+Holds b (steps r n) = Climb (tablesOf b) r n
+-- r has no administrator
+Holds b (alone r) = (a : ℕ) → Administrator (tablesOf b) a r → ⊥
+-- some role reaches itself
+Holds b loops = Loops (tablesOf b)
+-- the command gives the number n
+Holds b (gives c n) = First (refusals b c) n
+-- it is this board
+Holds b (same d) = b ≡ d
+
+-- ---- the tests
+
+-- the board of a stage, computed; and whether the board that it begins with has its shape
+unfoldable pub reached : Stage → Board
+reached (on b) = b
+reached (s then c) = left (reached s) c
+
+unfoldable pub begins? : Stage → Bool
+begins? (on b) = shaped? (tablesOf b)
+begins? (s then c) = begins? s
+
+unfoldable pub climbs? : Tables → ℕ → ℕ → Bool
+climbs? t zero r = eqb r 0
+climbs? t (suc n) r = any 64 (λ m. manager? t m r && climbs? t n m)
+
+unfoldable pub rows? : List ℕ → List ℕ → Bool
+rows? [] [] = true
+rows? [] (y ∷ ys) = false
+rows? (x ∷ xs) [] = false
+rows? (x ∷ xs) (y ∷ ys) = eqb x y && rows? xs ys
+
+unfoldable pub holds? : Board → Fact → Bool
+holds? b sound = sound? (tablesOf b)
+holds? b (derives x y so) = Bool·beq (derives? (tablesOf b) x y) so
+holds? b (scope a set) = eqb (setOf (scope? (tablesOf b) a)) set
+holds? b (manager r m) = manager? (tablesOf b) m r
+holds? b (steps r n) = climbs? (tablesOf b) n r
+holds? b (alone r) = not (any 64 (λ a. admin? (tablesOf b) a r))
+holds? b loops = loops? (tablesOf b)
+holds? b (gives c n) = fits? c && eqb (answer? b c) n
+holds? b (same d) = eqb (b .live) (d .live) && (rows? (b .i) (d .i) && rows? (b .a) (d .a))
+
+unfoldable pub right? : Stage → Fact → Bool
+right? s f = begins? s && holds? (reached s) f
+
+unfoldable pub every? : List (Stage × Fact) → Bool
+every? [] = true
+every? (e ∷ rest) = right? (e .0) (e .1) && every? rest
+
+-- ---- the table, its answers worked out by hand from document 01
+
+unfoldable pub table : List (Stage × Fact)
+table =
+    -- the three boards
+    (on P, sound)
+    ∷ (on W, sound)
+    ∷ (on L, sound)
+    -- P: who derives, scopes, line managers, steps
+    ∷ (on P, derives 0 2 true)
+    ∷ (on P, derives 0 3 false)
+    ∷ (on P, scope 0 0b0111)
+    ∷ (on P, scope 1 0b1110)
+    ∷ (on P, manager 1 0)
+    ∷ (on P, manager 2 1)
+    ∷ (on P, manager 3 1)
+    ∷ (on P, steps 3 2)
+    -- P: 1 to 3 into I, by role 0 and by role 1
+    ∷ (on P, gives (changeEdge 0 1 3 I) 6)
+    ∷ (on P, gives (changeEdge 1 1 3 I) 0)
+    ∷ (on P then changeEdge 1 1 3 I, derives 0 3 true)
+    -- P: a role 4 with the A-senior 1, with the I-senior 1, with none
+    ∷ (on P, gives (addRole 0 4 0b0010 0) 8)
+    ∷ (on P, gives (addRole 0 4 0 0b0010) 0)
+    ∷ (on P, gives (addRole 0 4 0 0) 8)
+    -- P: roles removed, and one of them added again
+    ∷ (on P, gives (removeRole 0 1) 9)
+    ∷ (on P, gives (removeRole 0 0) 6)
+    ∷ (on P, gives (removeRole 1 2) 0)
+    ∷ (on P then removeRole 1 2, gives (addRole 1 2 0 0b0010) 0)
+    ∷ (on P then removeRole 1 2 then addRole 1 2 0 0b0010, same P)
+    -- P: edges that would close a loop, the first of them out of scope besides
+    ∷ (on P, gives (addEdge 0 3 0 I) 6)
+    ∷ (on P then addEdge 0 3 0 I, loops)
+    ∷ (on P, gives (addEdge 0 2 1 I) 7)
+    ∷ (on P, gives (addEdge 0 1 1 I) 7)
+    -- L: a loop that deriving does not show
+    ∷ (on L, gives (addEdge 0 3 1 I) 7)
+    ∷ (on L, derives 1 3 false)
+    -- W: the edge 2 to 3 by A leaves role 5 alone; by I it is fine and moves a line manager, and then it cannot turn into A
+    ∷ (on W, gives (addEdge 0 2 3 A) 9)
+    ∷ (on W then addEdge 0 2 3 A, alone 5)
+    ∷ (on W, gives (addEdge 0 2 3 I) 0)
+    ∷ (on W, manager 3 1)
+    ∷ (on W then addEdge 0 2 3 I, manager 3 0)
+    ∷ (on W then addEdge 0 2 3 I, gives (changeEdge 0 2 3 A) 9)
+    -- roles 63 and 64; kinds 0 and 4
+    ∷ (on P, gives (addRole 0 63 0 0b0010) 0)
+    ∷ (on P, gives (addRole 0 64 0 0b0010) 2)
+    ∷ (on P, gives (addEdge 0 0 2 0) 2)
+    ∷ (on P, gives (addEdge 0 0 2 4) 2)
+    ∷ []

@@ -1,0 +1,95 @@
+// The boards and the commands of the examples, the same as those of the table of examples.
+ghost use mathlib.Core.Path.{_≡_};
+ghost use Rattle.examples.specs.Boards.{P, W, L, command, addRole, removeRole, addEdge, changeEdge};
+use board::Board;
+use board::Command;
+
+// 0 I 1, 1 I 2, 1 A 3
+pub fn p() -> Board
+    ensures { λ r. ⌜ r ≡ P ⌝ }
+{
+    let mut i = [0u64; Board::ROLES];
+    i[0] = 0b0010;
+    i[1] = 0b0100;
+    let mut a = [0u64; Board::ROLES];
+    a[1] = 0b1000;
+    Board { live: 0b1111, i, a }
+}
+
+// 0 I 1, 0 I 2, 0 I 3, 1 A 3, 1 A 4, 3 A 5, 4 A 5
+pub fn w() -> Board
+    ensures { λ r. ⌜ r ≡ W ⌝ }
+{
+    let mut i = [0u64; Board::ROLES];
+    i[0] = 0b001110;
+    let mut a = [0u64; Board::ROLES];
+    a[1] = 0b011000;
+    a[3] = 0b100000;
+    a[4] = 0b100000;
+    Board {
+        live: 0b111111,
+        i,
+        a,
+    }
+}
+
+// 0 I 1, 1 I 2, 2 A 3, 0 A 3
+pub fn l() -> Board
+    ensures { λ r. ⌜ r ≡ L ⌝ }
+{
+    let mut i = [0u64; Board::ROLES];
+    i[0] = 0b0010;
+    i[1] = 0b0100;
+    let mut a = [0u64; Board::ROLES];
+    a[0] = 0b1000;
+    a[2] = 0b1000;
+    Board { live: 0b1111, i, a }
+}
+
+fn command(
+    code: u8,
+    actor: u8,
+    role: u8,
+    junior: u8,
+    kind: u8,
+    a_seniors: u64,
+    i_seniors: u64,
+) -> Command
+    ensures { λ r. ⌜ r ≡ command code actor role junior kind «a_seniors» «i_seniors» ⌝ }
+{
+    Command {
+        code,
+        actor,
+        role,
+        junior,
+        kind,
+        a_seniors,
+        i_seniors,
+        a_juniors: 0,
+        i_juniors: 0,
+    }
+}
+
+pub fn add_role(actor: u8, role: u8, a_seniors: u64, i_seniors: u64) -> Command
+    ensures { λ r. ⌜ r ≡ addRole actor role «a_seniors» «i_seniors» ⌝ }
+{
+    command(1, actor, role, 0, 0, a_seniors, i_seniors)
+}
+
+pub fn remove_role(actor: u8, role: u8) -> Command
+    ensures { λ r. ⌜ r ≡ removeRole actor role ⌝ }
+{
+    command(2, actor, role, 0, 0, 0, 0)
+}
+
+pub fn add_edge(actor: u8, senior: u8, junior: u8, kind: u8) -> Command
+    ensures { λ r. ⌜ r ≡ addEdge actor senior junior kind ⌝ }
+{
+    command(3, actor, senior, junior, kind, 0, 0)
+}
+
+pub fn change_edge(actor: u8, senior: u8, junior: u8, kind: u8) -> Command
+    ensures { λ r. ⌜ r ≡ changeEdge actor senior junior kind ⌝ }
+{
+    command(5, actor, senior, junior, kind, 0, 0)
+}

@@ -1,0 +1,223 @@
+// The lines that the program writes. What was asked is written from the very values that are asked about.
+ghost use mathlib.Core.Path.{_≡_};
+ghost use mathlib.Core.Bool.{true};
+ghost use mathlib.Core.Logic.{_↔_};
+use crate::boards;
+use board::Board;
+use board::Command;
+use board::checks;
+use board::commands::step;
+use board::effects::after;
+use board::questions;
+use board::questions::Manager;
+use sets::has;
+
+fn text(s: &[u8]) {
+    io::write_all(1, s);
+}
+
+fn number(n: u8) {
+    io::print_decimal(1, n as u64);
+}
+
+// The number of a refusal, at the end of a line.
+fn refused(n: u8) {
+    text(b"refused ");
+    number(n);
+    text(b"\n");
+}
+
+fn yes_or_no(yes: bool) {
+    if yes {
+        text(b"yes\n");
+    } else {
+        text(b"no\n");
+    }
+}
+
+// The roles of s, a space before each, or '-' where it has none.
+fn roles(s: u64) {
+    if s == 0 {
+        text(b" -");
+    }
+    let mut r: u8 = 0;
+    while r < 64 {
+        if has(s, r as usize) {
+            text(b" ");
+            number(r);
+        }
+        r += 1;
+    }
+}
+
+// ---- questions
+
+pub fn sound(name: &[u8], b: Board) {
+    text(name);
+    text(b": sound: ");
+    yes_or_no(checks::sound(b));
+}
+
+pub fn derives(name: &[u8], b: Board, x: u8, y: u8) {
+    text(name);
+    text(b": ");
+    number(x);
+    text(b" derives ");
+    number(y);
+    text(b": ");
+    let d = questions::derives(b, x, y);
+    if d.number != 0 {
+        refused(d.number);
+        return;
+    }
+    yes_or_no(d.yes);
+}
+
+// The roles in the scope of a, asked about one by one, a space before each.
+fn members(b: Board, a: u8) {
+    let mut r: u8 = 0;
+    while r < 64 {
+        let asked = questions::scope(b, a, r);
+        if asked.yes {
+            text(b" ");
+            number(r);
+        }
+        r += 1;
+    }
+}
+
+// The scope of a, and its size in brackets.
+pub fn scope(name: &[u8], b: Board, a: u8) {
+    text(name);
+    text(b": scope of ");
+    number(a);
+    text(b":");
+    members(b, a);
+    let own = questions::scope(b, a, a);
+    text(b" (");
+    io::print_decimal(1, own.count as u64);
+    text(b")\n");
+}
+
+pub fn manager(name: &[u8], b: Board, r: u8) {
+    text(name);
+    text(b": line manager of ");
+    number(r);
+    text(b": ");
+    let m = questions::line_manager(b, r);
+    if m.number != 0 {
+        refused(m.number);
+        return;
+    }
+    let who = m.manager;
+    let Manager::Role(x) = who else {
+        text(b"none\n");
+        return;
+    };
+    number(x);
+    text(b"\n");
+}
+
+pub fn steps(name: &[u8], b: Board, r: u8) {
+    text(name);
+    text(b": steps from ");
+    number(r);
+    text(b": ");
+    let s = questions::steps(b, r);
+    if s.number != 0 {
+        refused(s.number);
+        return;
+    }
+    io::print_decimal(1, s.steps as u64);
+    text(b"\n");
+}
+
+// ---- commands
+
+// Runs the command, writes its number and gives back the board.
+fn run(b: Board, c: Command) -> Board {
+    let o = step(b, c);
+    text(b": ");
+    number(o.number);
+    text(b"\n");
+    o.board
+}
+
+fn actor(name: &[u8], a: u8) {
+    text(name);
+    text(b": actor ");
+    number(a);
+}
+
+fn edge(senior: u8, junior: u8, kind: u8) {
+    number(senior);
+    text(b" to ");
+    number(junior);
+    text(b", kind ");
+    number(kind);
+}
+
+pub fn add_role(name: &[u8], b: Board, a: u8, role: u8, a_seniors: u64, i_seniors: u64) -> Board {
+    actor(name, a);
+    text(b" adds role ");
+    number(role);
+    text(b", A-seniors");
+    roles(a_seniors);
+    text(b", I-seniors");
+    roles(i_seniors);
+    run(b, boards::add_role(a, role, a_seniors, i_seniors))
+}
+
+pub fn remove_role(name: &[u8], b: Board, a: u8, role: u8) -> Board {
+    actor(name, a);
+    text(b" removes role ");
+    number(role);
+    run(b, boards::remove_role(a, role))
+}
+
+pub fn add_edge(name: &[u8], b: Board, a: u8, senior: u8, junior: u8, kind: u8) -> Board {
+    actor(name, a);
+    text(b" adds ");
+    edge(senior, junior, kind);
+    run(b, boards::add_edge(a, senior, junior, kind))
+}
+
+pub fn change_edge(name: &[u8], b: Board, a: u8, senior: u8, junior: u8, kind: u8) -> Board {
+    actor(name, a);
+    text(b" changes ");
+    edge(senior, junior, kind);
+    run(b, boards::change_edge(a, senior, junior, kind))
+}
+
+// What is wrong with the board that a command would leave.
+pub fn trouble(name: &[u8], b: Board, c: Command) {
+    text(name);
+    text(b": trouble: ");
+    number(checks::trouble(after(b, c)));
+    text(b"\n");
+}
+
+// Whether the two tables are the same.
+fn same_rows(s: [u64; 64], t: [u64; 64]) -> bool
+    ensures { λ r. ⌜ (r ≡ true) ↔ (s ≡ t) ⌝ }
+{
+    let mut x = 0;
+    while x < 64 {
+        if s[x] != t[x] {
+            return false;
+        }
+        x += 1;
+    }
+    true
+}
+
+// Whether the two boards are the same.
+pub fn same(name: &[u8], b: Board, d: Board) {
+    text(name);
+    text(b": ");
+    let bi = b.i;
+    let ba = b.a;
+    let di = d.i;
+    let da = d.a;
+    yes_or_no(b.live == d.live && same_rows(bi, di) && same_rows(ba, da));
+}

@@ -1,0 +1,100 @@
+// Runs every example of document 01 through the board's own functions and writes a line for each: what was asked, then what came
+// back. `stdout` has the same lines, worked out by hand from the document.
+use boards::l;
+use boards::p;
+use boards::w;
+
+mod boards;
+mod lines;
+
+// P: who derives whom, scopes, line managers, steps.
+fn questions_on_p() {
+    let b = p();
+    lines::sound(b"P", b);
+    lines::derives(b"P", b, 0, 2);
+    lines::derives(b"P", b, 0, 3);
+    lines::scope(b"P", b, 0);
+    lines::scope(b"P", b, 1);
+    lines::manager(b"P", b, 1);
+    lines::manager(b"P", b, 2);
+    lines::manager(b"P", b, 3);
+    lines::steps(b"P", b, 3);
+}
+
+// P: an edge changed, a role added.
+fn changes_on_p() {
+    let b = p();
+    lines::change_edge(b"P", b, 0, 1, 3, 1);
+    let opened = lines::change_edge(b"P", b, 1, 1, 3, 1);
+    lines::derives(b"P with 1 I 3", opened, 0, 3);
+    lines::add_role(b"P", b, 0, 4, 0b10, 0);
+    lines::add_role(b"P", b, 0, 4, 0, 0b10);
+    lines::add_role(b"P", b, 0, 4, 0, 0);
+}
+
+// P: roles removed, and one of them added again.
+fn removals_on_p() {
+    let b = p();
+    lines::remove_role(b"P", b, 0, 1);
+    lines::remove_role(b"P", b, 0, 0);
+    let less = lines::remove_role(b"P", b, 1, 2);
+    let again = lines::add_role(b"P without 2", less, 1, 2, 0, 0b10);
+    lines::same(b"P without 2, and 2 added again, is P", again, b);
+}
+
+// P and L: loops.
+fn loops_on_p_and_l() {
+    let b = p();
+    lines::add_edge(b"P", b, 0, 3, 0, 1);
+    lines::trouble(b"P with 3 I 0", b, boards::add_edge(0, 3, 0, 1));
+    lines::add_edge(b"P", b, 0, 2, 1, 1);
+    lines::add_edge(b"P", b, 0, 1, 1, 1);
+    let d = l();
+    lines::sound(b"L", d);
+    lines::add_edge(b"L", d, 0, 3, 1, 1);
+    lines::derives(b"L", d, 1, 3);
+}
+
+// W: an edge that leaves role 5 without an administrator.
+fn edges_on_w() {
+    let b = w();
+    lines::sound(b"W", b);
+    lines::add_edge(b"W", b, 0, 2, 3, 2);
+    lines::trouble(b"W with 2 A 3", b, boards::add_edge(0, 2, 3, 2));
+    lines::manager(b"W", b, 3);
+    let more = lines::add_edge(b"W", b, 0, 2, 3, 1);
+    lines::manager(b"W with 2 I 3", more, 3);
+    lines::change_edge(b"W with 2 I 3", more, 0, 2, 3, 2);
+}
+
+// Role 63 is in range and 64 is not, in each field that names a role.
+fn range_of_roles() {
+    let b = p();
+    lines::add_role(b"P", b, 0, 63, 0, 0b10);
+    lines::add_role(b"P", b, 0, 64, 0, 0b10);
+    lines::remove_role(b"P", b, 63, 1);
+    lines::remove_role(b"P", b, 64, 1);
+    lines::add_edge(b"P", b, 0, 0, 63, 1);
+    lines::add_edge(b"P", b, 0, 0, 64, 1);
+    lines::derives(b"P", b, 0, 63);
+    lines::derives(b"P", b, 0, 64);
+}
+
+// Kinds are 1 to 3.
+fn range_of_kinds() {
+    let b = p();
+    lines::add_edge(b"P", b, 0, 0, 2, 0);
+    lines::add_edge(b"P", b, 0, 0, 2, 1);
+    lines::add_edge(b"P", b, 0, 0, 2, 3);
+    lines::add_edge(b"P", b, 0, 0, 2, 4);
+}
+
+fn main() {
+    questions_on_p();
+    changes_on_p();
+    removals_on_p();
+    loops_on_p_and_l();
+    edges_on_w();
+    range_of_roles();
+    range_of_kinds();
+}
