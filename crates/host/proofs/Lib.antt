@@ -1,0 +1,7 @@
+-- Settled (two outcomes that a contract allows coincide), Apart (an answer can be taken apart again), and what the proofs of the
+-- functions stand on.
+pub mod Settled
+pub mod Apart
+pub mod Places
+pub mod Bounds
+pub mod Reading

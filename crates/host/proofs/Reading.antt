@@ -1,0 +1,36 @@
+-- What a call found, once its number is known. Assumes nothing.
+use mathlib.Core.Path.{_≡_, refl, sym, subst}
+use mathlib.Core.Logic.{_≢_, inl, inr}
+use mathlib.Core.List.{List}
+use Prim.Native.Nat.{ℕ}
+use Rattle.hierarchy.specs.Words.{Sound}
+use Rattle.hierarchy.specs.First.{First}
+use Rattle.board.specs.Boards.{tablesOf}
+use Rattle.board.specs.Commands.{Decided}
+use Rattle.board.specs.declared.Board.{Board}
+use Rattle.board.specs.declared.Command.{Command}
+use Rattle.board.proofs.Kept.{sound-after}
+use Rattle.boardfile.specs.Answers.{ReadAnswer, WriteAnswer, writeRefusals}
+
+module _ {n : ℕ} where
+  pub read-done : {f : List ℕ} {b : Board} → ReadAnswer f n b → n ≡ 0 → ReadAnswer f 0 b
+  read-done {f} {b} a e = subst (λ (k : ℕ). ReadAnswer f k b) e a
+
+  pub step-done : {b next : Board} {c : Command} → Decided b c n next → n ≡ 0 → Decided b c 0 next
+  step-done {b} {next} {c} a e = subst (λ (k : ℕ). Decided b c k next) e a
+
+  pub write-is : {b : Board} {entry exit : List ℕ} {at m len : ℕ} → WriteAnswer b entry at exit n len → n ≡ m → WriteAnswer b entry at exit m len
+  write-is {b} {entry} {exit} {at} {len = len} a e = subst (λ (k : ℕ). WriteAnswer b entry at exit k len) e a
+
+  -- a done command leaves a sound board, so writing it is refused for want of room alone
+  pub write-refused : {b next : Board} {c : Command} {entry exit : List ℕ} {at len : ℕ} → Decided b c 0 next → WriteAnswer next entry at exit n len → n ≢ 0 → n ≡ 12
+  unfolding First
+  write-refused {b} {next} {c} {entry} {at = at} d w z = go (w .numbered)
+    where
+      sound : Sound (tablesOf next)
+      sound = subst (λ (x : Board). Sound (tablesOf x)) (sym (d .done refl)) (sound-after b c (d .numbered))
+
+      go : First (writeRefusals next entry at) n → n ≡ 12
+      go (inl p) = absurd (p .0 sound)
+      go (inr (_, inl p)) = p .1
+      go (inr (_, inr p)) = absurd (z (p .1))

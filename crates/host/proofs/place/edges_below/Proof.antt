@@ -1,0 +1,55 @@
+use Prim.Native.Nat.{ℕ, _≤_, _-_}
+use native.Mathlib.Omega.{arith}
+use mathlib.Core.Path.{sym, _∙_}
+use Rattle.hierarchy.specs.Tables.{tables}
+use Rattle.boardfile.proofs.Counts.{Counted, count-start, count-few, count-turn, row-count}
+use Rattle.host.proofs.Places.{count-at}
+use Rattle.host.proofs.place.edges_below.Statement.{statement}
+use Rattle.host.proofs.place.edges_below.Tie as tie
+
+abbrev Inv-loop : tie.InvT-loop
+Inv-loop senior i a n₀ x₀ n x = (x ≤ senior) × ((live : ℕ) → Counted (tables live i a) n x)
+
+abbrev μ-loop : tie.MeasureT-loop
+μ-loop senior i a n₀ x₀ n x = senior - x
+
+loop-holds : tie.Need-loop-holds Inv-loop μ-loop
+loop-holds c = (omega arith, λ live. count-start _)
+
+mul-union : tie.Need-mul-union Inv-loop μ-loop
+mul-union c = omega arith
+
+array-read-union : tie.Need-array-read-union Inv-loop μ-loop
+array-read-union c = omega arith
+
+mul-union-2 : tie.Need-mul-union-2 Inv-loop μ-loop
+mul-union-2 c = omega arith
+
+array-read-union-2 : tie.Need-array-read-union-2 Inv-loop μ-loop
+array-read-union-2 c = omega arith
+
+cast-n : tie.Need-cast-n Inv-loop μ-loop
+cast-n c = omega (arith, c .size .ok)
+
+add-n : tie.Need-add-n Inv-loop μ-loop
+add-n c = let h = count-few (c .before .before .before .loop .inv .1 0) in omega (arith, c .size .ok)
+
+add-x : tie.Need-add-x Inv-loop μ-loop
+add-x c = omega arith
+
+loop-less : tie.Need-loop-less Inv-loop μ-loop
+loop-less c = omega arith
+
+loop-again : tie.Need-loop-again Inv-loop μ-loop
+loop-again c =
+    let l = c .before .before .before in
+    let u = c .before .union in
+    (omega arith, λ live. count-turn (l .loop .inv .1 live) (omega arith) (c .size .result) (row-count _ _ (u .result) (omega (arith, u .ok)) (u .ensures) ∙ sym (c .size .ensures)))
+
+returns : tie.Need-returns Inv-loop μ-loop
+returns c = count-at (c .before .loop .inv .1 _) (omega arith)
+
+pub edges-below-spec : {M : Type 1} → statement M
+edges-below-spec =
+    tie.close
+    (tie.spec Inv-loop μ-loop loop-holds mul-union array-read-union mul-union-2 array-read-union-2 (λ c κs. tt) (λ c κs. tt) cast-n add-n add-x loop-less loop-again returns)

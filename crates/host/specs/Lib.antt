@@ -1,0 +1,2 @@
+-- What the functions for programs in C answer.
+pub mod Answers

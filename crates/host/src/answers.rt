@@ -1,0 +1,49 @@
+// An answer in one number: the refusal number, where it arose, and a value.
+ghost use mathlib.Core.Path.{_≡_};
+ghost use Prim.Native.Nat.{_+_, _*_, _≤_};
+ghost use Rattle.sets.specs.Sets.{num};
+ghost use Rattle.host.specs.Answers.{answer, managerOr64};
+use board::questions::Manager;
+
+// Where an answer arose: the command or the question, the file, the writing.
+pub(crate) const ASKED: u8 = 0;
+
+pub(crate) const FILE: u8 = 1;
+
+pub(crate) const WRITING: u8 = 2;
+
+// what stands for no line manager
+pub(crate) const NONE: u16 = 64;
+
+// The three parts of an answer in one number.
+pub(crate) fn packed(number: u8, place: u8, value: u16) -> u32
+    ensures { λ r. ⌜ r ≡ answer number place value ⌝ }
+{
+    number as u32 + 256 * (place as u32) + 65536 * (value as u32)
+}
+
+pub(crate) fn one_if(yes: bool) -> u16
+    ensures { λ r. ⌜ r ≡ num yes ⌝ }
+{
+    if yes { 1 } else { 0 }
+}
+
+pub(crate) fn scope_value(yes: bool, count: u32) -> u16
+    requires { ⌜ count ≤ 64 ⌝ }
+    ensures { λ r. ⌜ r ≡ num yes + 2 * count ⌝ }
+{
+    let twice = 2 * (count as u16);
+    if yes {
+        return 1 + twice;
+    }
+    twice
+}
+
+pub(crate) fn manager_value(m: Manager) -> u16
+    ensures { λ r. ⌜ r ≡ managerOr64 m ⌝ }
+{
+    match m {
+        Manager::Role(x) => x as u16,
+        Manager::Nobody => NONE,
+    }
+}

@@ -1,0 +1,126 @@
+#include "boards.h"
+#include <stdio.h>
+#include <stdlib.h>
+#include <string.h>
+
+/* ---- boards */
+
+static void edge(struct board *b, unsigned senior, unsigned junior, unsigned kind)
+{
+    b->live |= 1ull << senior | 1ull << junior;
+    if (kind & 1) b->i[senior] |= 1ull << junior;
+    if (kind & 2) b->a[senior] |= 1ull << junior;
+}
+
+static void put16(uint8_t *at, size_t n) { at[0] = n & 255, at[1] = n >> 8; }
+
+static void finish(struct sample *s, unsigned last)
+{
+    const struct board *b = &s->board;
+    uint8_t *at = s->file;
+    for (unsigned x = 0; x < 64; x++)
+        if (b->live >> x & 1) *at++ = x;
+    const uint8_t *edges = at;
+    for (unsigned x = 0; x < 64; x++)
+        for (unsigned y = 0; y < 64; y++) {
+            unsigned kind = (b->i[x] >> y & 1) | (b->a[x] >> y & 1) << 1;
+            if (kind == 0) continue;
+            *at++ = x, *at++ = y, *at++ = kind;
+        }
+    put16(at, at - edges);
+    put16(at + 2, at - s->file);
+    memcpy(at + 4, "HH", 2);
+    s->len = at + 6 - s->file;
+    s->last = last;
+}
+
+static void begin(struct sample *s)
+{
+    memset(s, 0, sizeof *s);
+    s->board.live = 1;
+}
+
+void founding(struct sample *s)
+{
+    begin(s);
+    strcpy(s->name, "founding board");
+    finish(s, 0);
+}
+
+void tree(struct sample *s, unsigned roles)
+{
+    begin(s);
+    sprintf(s->name, "tree of %u", roles);
+    for (unsigned x = 1; x < roles; x++) edge(&s->board, (x - 1) / 2, x, 1 + x % 3);
+    finish(s, roles - 1);
+}
+
+void chain(struct sample *s, unsigned roles)
+{
+    begin(s);
+    sprintf(s->name, "chain of %u", roles);
+    for (unsigned x = 1; x < roles; x++) edge(&s->board, x - 1, x, 3);
+    finish(s, roles - 1);
+}
+
+void dense(struct sample *s, unsigned roles, unsigned edges)
+{
+    unsigned put = 0;
+    begin(s);
+    sprintf(s->name, "%u roles, %u edges", roles, edges);
+    for (unsigned span = 1; span < roles; span++)
+        for (unsigned x = 0; x + span < roles && put < edges; x++, put++) edge(&s->board, x, x + span, 3);
+    finish(s, roles - 1);
+}
+
+/* ---- calls */
+
+const char *const deed_name[DEEDS] = {"apply, done", "apply, refused 6", "apply, refused 7", "command, done",
+                                      "check",       "derives",          "scope",            "manager",
+                                      "steps",       "stretch"};
+
+/* That the answers are right is the comparison's business; here it is enough that a call did what is measured. */
+static void expect(enum deed deed, const struct sample *s, uint64_t answer, uint8_t number)
+{
+    if (BOARD_NUMBER(answer) == number) return;
+    printf("%s on %s gave %u, not %u\n", deed_name[deed], s->name, BOARD_NUMBER(answer), number);
+    exit(1);
+}
+
+#define REPEAT(call, number)                                                                                           \
+    for (long k = 0; k < times; k++) expect(deed, s, call, number)
+
+long perform(enum deed deed, const struct calls *c, struct sample *s, long times)
+{
+    static uint8_t out[BOARD_FILE];
+    struct board *b = &s->board;
+    const uint8_t *file = s->file, last = s->last, kind = (b->i[0] >> 1 & 1) | (b->a[0] >> 1 & 1) << 1;
+    const size_t len = s->len;
+
+    switch (deed) {
+    case DONE: /* a role comes and goes, or an edge changes its kind and back */
+        for (long k = 0; k < times; k++) {
+            if (last == 0) {
+                expect(deed, s, c->apply(b, 1, 0, 1, 0, 0, 0, 1, 0, 0), 0);
+                expect(deed, s, c->apply(b, 2, 0, 1, 0, 0, 0, 0, 0, 0), 0);
+            } else {
+                expect(deed, s, c->apply(b, 5, 0, 0, 1, kind % 3 + 1, 0, 0, 0, 0), 0);
+                expect(deed, s, c->apply(b, 5, 0, 0, 1, kind, 0, 0, 0, 0), 0);
+            }
+        }
+        return 2 * times;
+    case REFUSED_6: REPEAT(c->apply(b, 2, 0, 0, 0, 0, 0, 0, 0, 0), 6); break;
+    case REFUSED_7: REPEAT(c->apply(b, 3, 0, last == 0 ? 0 : 1, 0, 1, 0, 0, 0, 0), 7); break;
+    case COMMAND:
+        if (last == 0) REPEAT(c->command(file, len, 1, 0, 1, 0, 0, 0, 1, 0, 0, out, sizeof out), 0);
+        else REPEAT(c->command(file, len, 5, 0, 0, 1, kind, 0, 0, 0, 0, out, sizeof out), 0);
+        break;
+    case CHECK: REPEAT(c->check(file, len), 0); break;
+    case DERIVES: REPEAT(c->derives(file, len, 0, last), 0); break;
+    case SCOPE: REPEAT(c->scope(file, len, 0, last), 0); break;
+    case MANAGER: REPEAT(c->manager(file, len, last), 0); break;
+    case STEPS: REPEAT(c->steps(file, len, last), 0); break;
+    default: REPEAT(c->stretch(file, len, last), 0);
+    }
+    return times;
+}

@@ -1,0 +1,91 @@
+/* How deep each call goes: it runs on a stack of its own, painted before and searched after.
+ * Counted from the frame that makes the call to the lowest byte that changed. */
+#include "boards.h"
+#include <stdio.h>
+#include <string.h>
+#include <ucontext.h>
+
+static const struct calls subject = CALLS_OF(SUBJECT), plain = CALLS(plain);
+
+enum { STACK = 1 << 20, PAINT = 0xa5 };
+static uint8_t stack[STACK] __attribute__((aligned(64)));
+static ucontext_t home, away;
+
+/* ---- callers that note where their frame begins */
+
+static const struct calls *inner;
+static uint8_t *frame;
+
+#define NOTED (frame = __builtin_frame_address(0), inner)
+#define NUMBERS code, actor, role, junior, kind, a_seniors, i_seniors, a_juniors, i_juniors
+
+static uint8_t noted_apply(struct board *b, NINE_NUMBERS) { return NOTED->apply(b, NUMBERS); }
+static uint32_t noted_command(const uint8_t *file, size_t len, NINE_NUMBERS, uint8_t *out, size_t room)
+{
+    return NOTED->command(file, len, NUMBERS, out, room);
+}
+static uint32_t noted_check(const uint8_t *file, size_t len) { return NOTED->check(file, len); }
+static uint32_t noted_derives(const uint8_t *file, size_t len, uint8_t x, uint8_t y)
+{
+    return NOTED->derives(file, len, x, y);
+}
+static uint32_t noted_scope(const uint8_t *file, size_t len, uint8_t a, uint8_t r)
+{
+    return NOTED->scope(file, len, a, r);
+}
+static uint32_t noted_manager(const uint8_t *file, size_t len, uint8_t r) { return NOTED->manager(file, len, r); }
+static uint32_t noted_steps(const uint8_t *file, size_t len, uint8_t r) { return NOTED->steps(file, len, r); }
+static uint64_t noted_stretch(const uint8_t *file, size_t len, uint8_t role)
+{
+    return NOTED->stretch(file, len, role);
+}
+
+static const struct calls noted = CALLS(noted);
+
+/* ---- a call on the painted stack */
+
+static struct {
+    enum deed deed;
+    struct sample *sample;
+} job;
+
+static void work(void) { perform(job.deed, &noted, job.sample, 1); }
+
+static size_t depth(enum deed deed, const struct calls *calls, struct sample *s)
+{
+    uint8_t *clean = stack;
+    job.deed = deed, job.sample = s, inner = calls;
+    memset(stack, PAINT, sizeof stack);
+    getcontext(&away);
+    away.uc_stack.ss_sp = stack;
+    away.uc_stack.ss_size = sizeof stack;
+    away.uc_link = &home;
+    makecontext(&away, work, 0);
+    swapcontext(&home, &away);
+    while (clean < frame && *clean == PAINT) clean++;
+    return frame - clean;
+}
+
+int main(int argc, char **argv)
+{
+    static struct sample samples[4];
+    founding(&samples[0]);
+    tree(&samples[1], 20);
+    chain(&samples[2], 64);
+    dense(&samples[3], 64, 2016);
+
+    printf("bytes of stack, the most over the four boards; %s\n\n", argc > 1 ? argv[1] : "");
+    printf("| %-16s | %9s | %9s |\n|---|---:|---:|\n", "call", SUBJECT_NAME, "plain C");
+    for (int deed = 0; deed < DEEDS; deed++) {
+        const struct calls *sides[2] = {&subject, &plain};
+        size_t most[2] = {0, 0};
+        for (int side = 0; side < 2; side++)
+            for (int board = 0; board < 4; board++) {
+                depth(deed, sides[side], &samples[board]); /* the first call may bind names, if linked so */
+                size_t d = depth(deed, sides[side], &samples[board]);
+                if (d > most[side]) most[side] = d;
+            }
+        printf("| %-16s | %9zu | %9zu |\n", deed_name[deed], most[0], most[1]);
+    }
+    return 0;
+}

@@ -1,0 +1,50 @@
+/* board.h's eight functions as a record, so that one test serves the library, the plain C and the model. */
+#ifndef CALLS_H
+#define CALLS_H
+
+#include <board.h> /* found by the path that run.sh gives: the library's own, once there is one */
+
+#define NINE_NUMBERS                                                                                       \
+    uint8_t code, uint8_t actor, uint8_t role, uint8_t junior, uint8_t kind, uint64_t a_seniors,           \
+        uint64_t i_seniors, uint64_t a_juniors, uint64_t i_juniors
+
+struct calls {
+    uint8_t (*apply)(struct board *b, NINE_NUMBERS);
+    uint32_t (*command)(const uint8_t *file, size_t len, NINE_NUMBERS, uint8_t *out, size_t room);
+    uint32_t (*check)(const uint8_t *file, size_t len);
+    uint32_t (*derives)(const uint8_t *file, size_t len, uint8_t x, uint8_t y);
+    uint32_t (*scope)(const uint8_t *file, size_t len, uint8_t a, uint8_t r);
+    uint32_t (*manager)(const uint8_t *file, size_t len, uint8_t r);
+    uint32_t (*steps)(const uint8_t *file, size_t len, uint8_t r);
+    uint64_t (*stretch)(const uint8_t *file, size_t len, uint8_t role);
+};
+
+#define CALLS(p)                                                                                           \
+    {                                                                                                      \
+        p##_apply, p##_command, p##_check, p##_derives, p##_scope, p##_manager, p##_steps, p##_stretch     \
+    }
+
+#define DECLARE_CALLS(p)                                                                                   \
+    uint8_t p##_apply(struct board *b, NINE_NUMBERS);                                                      \
+    uint32_t p##_command(const uint8_t *file, size_t len, NINE_NUMBERS, uint8_t *out, size_t room);        \
+    uint32_t p##_check(const uint8_t *file, size_t len);                                                   \
+    uint32_t p##_derives(const uint8_t *file, size_t len, uint8_t x, uint8_t y);                           \
+    uint32_t p##_scope(const uint8_t *file, size_t len, uint8_t a, uint8_t r);                             \
+    uint32_t p##_manager(const uint8_t *file, size_t len, uint8_t r);                                      \
+    uint32_t p##_steps(const uint8_t *file, size_t len, uint8_t r);                                        \
+    uint64_t p##_stretch(const uint8_t *file, size_t len, uint8_t role);
+
+/* The subject of a test: the library, or with -DSUBJECT_PLAIN the plain C in its place. */
+#ifdef SUBJECT_PLAIN
+#define SUBJECT plain
+#define SUBJECT_NAME "plain C"
+#else
+#define SUBJECT board
+#define SUBJECT_NAME "library"
+#endif
+#define CALLS_OF(p) CALLS(p)
+
+DECLARE_CALLS(plain)
+DECLARE_CALLS(model)
+
+#endif

@@ -1,0 +1,267 @@
+/* One call on both sides: guarded memory for the subject, the model's answer, and a line that replays the case. */
+#include "compare.h"
+#include <signal.h>
+#include <stdarg.h>
+#include <stdio.h>
+#include <stdlib.h>
+#include <string.h>
+#include <sys/mman.h>
+
+static const struct calls subject = CALLS_OF(SUBJECT);
+
+const char *const call_name[CALL_COUNT] = {"apply", "command", "check", "derives",
+                                           "scope", "manager", "steps", "stretch"};
+
+/* The case in hand, for messages. */
+static struct {
+    enum call call;
+    const struct board *board;
+    const uint8_t *file;
+    size_t len, room;
+    const struct command *command;
+    uint8_t x, y;
+} now;
+
+/* ---- the line that replays a case */
+
+static void print_case(void)
+{
+    printf("replay: %s", call_name[now.call]);
+    if (now.call == APPLY) {
+        printf(" live=%llx", (unsigned long long)now.board->live);
+        for (int x = 0; x < ROLES; x++) {
+            if (now.board->i[x]) printf(" i%d=%llx", x, (unsigned long long)now.board->i[x]);
+            if (now.board->a[x]) printf(" a%d=%llx", x, (unsigned long long)now.board->a[x]);
+        }
+    } else {
+        printf(" file=");
+        for (size_t k = 0; k < now.len; k++) printf("%02x", now.file[k]);
+    }
+    if (now.command != NULL)
+        printf(" numbers=%u,%u,%u,%u,%u,%llx,%llx,%llx,%llx", now.command->code, now.command->actor,
+               now.command->role, now.command->junior, now.command->kind,
+               (unsigned long long)now.command->a_seniors, (unsigned long long)now.command->i_seniors,
+               (unsigned long long)now.command->a_juniors, (unsigned long long)now.command->i_juniors);
+    if (now.call == COMMAND) printf(" room=%zu", now.room);
+    if (now.call >= DERIVES) printf(" x=%u y=%u", now.x, now.y);
+    printf("\n");
+}
+
+void disagree(const char *what, ...)
+{
+    va_list args;
+    va_start(args, what);
+    printf("DISAGREEMENT at call %ld (%s): ", tally.calls, call_name[now.call]);
+    vprintf(what, args);
+    printf("\n");
+    va_end(args);
+    print_case();
+    exit(1);
+}
+
+static void died(int signal)
+{
+    printf("DISAGREEMENT at call %ld (%s): the " SUBJECT_NAME " died of signal %d\n", tally.calls,
+           call_name[now.call], signal);
+    print_case();
+    fflush(stdout);
+    _Exit(1);
+}
+
+void watch_for_crashes(void)
+{
+    static const int fatal[] = {SIGSEGV, SIGBUS, SIGILL, SIGFPE, SIGABRT, SIGTRAP};
+    for (size_t k = 0; k < sizeof fatal / sizeof fatal[0]; k++) signal(fatal[k], died);
+}
+
+/* ---- memory lent to the subject */
+
+enum { WALL = 65536, GUARD = 64 }; /* a wall is as long as the longest page of a kernel we may meet */
+
+/* A copy of the file that ends where unreadable memory begins. */
+static uint8_t *lend(const uint8_t *file, size_t len)
+{
+    static uint8_t *wall;
+    if (wall == NULL) {
+        uint8_t *place = mmap(NULL, 4 * WALL, PROT_READ | PROT_WRITE, MAP_PRIVATE | MAP_ANONYMOUS, -1, 0);
+        if (place == MAP_FAILED) abort();
+        wall = place + 2 * WALL + (WALL - (uintptr_t)place % WALL) % WALL;
+        if (mprotect(wall, WALL, PROT_NONE) != 0) abort();
+    }
+    return memcpy(wall - len, file, len);
+}
+
+/* What memory holds before a call: any pattern serves that a byte moved or cleared would break. */
+static void paint(uint8_t *at, size_t len)
+{
+    static uint8_t pattern[GUARD + ROOM + GUARD];
+    for (size_t k = 0; pattern[0] == 0 && k < sizeof pattern; k++) pattern[sizeof pattern - 1 - k] = 11 + 37 * k;
+    memcpy(at, pattern, len);
+}
+
+/* ---- tries */
+
+static int code_class(const struct command *c) { return c->code >= 1 && c->code <= 5 ? c->code : 0; }
+
+uint8_t try_apply(const struct view *v, const struct board *b, const struct command *c, struct view *after)
+{
+    static struct lent {
+        uint8_t before[GUARD];
+        struct board board;
+        uint8_t after[GUARD];
+    } lent, want;
+
+    now.call = APPLY, now.board = b, now.command = c;
+    tally.calls++;
+    tally.commands++;
+    paint((uint8_t *)&want, sizeof want);
+    want.board = *b;
+    lent = want;
+    uint8_t number = decide(v, c, after);
+    if (number == 0) to_board(&after->board, &want.board);
+
+    uint8_t said = subject.apply(&lent.board, c->code, c->actor, c->role, c->junior, c->kind, c->a_seniors,
+                                 c->i_seniors, c->a_juniors, c->i_juniors);
+    if (said != number) disagree("number %u, the model %u", said, number);
+    if (memcmp(&lent.board, &want.board, sizeof want.board) != 0) disagree("number %u, another board afterwards", said);
+    if (memcmp(&lent, &want, sizeof want) != 0) disagree("bytes outside the board were touched");
+
+    tally.apply[code_class(c)][number]++;
+    if (number == 0 && c->code == CHANGE_EDGE && memcmp(b, &want.board, sizeof *b) == 0) tally.idle_change++;
+    if (number == 7 && c->code == ADD_EDGE && !v->derives[c->junior][c->role]) tally.hidden_loop++;
+    return number;
+}
+
+static bool seniors_in_scope(const struct view *v, int a, int r)
+{
+    int seniors = 0;
+    for (int s = 0; s < ROLES; s++) {
+        if (v->board.kind[s][r] == 0) continue;
+        if (!in_scope(v, a, s)) return false;
+        seniors++;
+    }
+    return seniors > 0;
+}
+
+void try_question(const struct opened *o, enum call call, uint8_t x, uint8_t y)
+{
+    const uint8_t *file = lend(o->file, o->len);
+    uint64_t said = 0, want = 0;
+
+    now.call = call, now.file = o->file, now.len = o->len, now.command = NULL, now.x = x, now.y = y;
+    tally.calls++;
+    switch (call) {
+    case CHECK: said = subject.check(file, o->len), want = answer_check(o); break;
+    case DERIVES: said = subject.derives(file, o->len, x, y), want = answer_derives(o, x, y); break;
+    case SCOPE: said = subject.scope(file, o->len, x, y), want = answer_scope(o, x, y); break;
+    case MANAGER: said = subject.manager(file, o->len, x), want = answer_manager(o, x); break;
+    case STEPS: said = subject.steps(file, o->len, x), want = answer_steps(o, x); break;
+    default: said = subject.stretch(file, o->len, x), want = answer_stretch(o, x); break;
+    }
+    if (said != want) disagree("answer %#llx, the model %#llx", (unsigned long long)said, (unsigned long long)want);
+    if (memcmp(file, o->file, o->len) != 0) disagree("the file was touched");
+
+    tally.question[call][BOARD_PLACE(want)][BOARD_NUMBER(want)]++;
+    if (BOARD_NUMBER(want) != 0) return;
+    uint64_t value = want >> 16;
+    bool some = call == SCOPE ? value & 1 : call == MANAGER ? value != NONE : value != 0;
+    tally.value[call][some]++;
+    if (call == STEPS && (long)value > tally.most_steps) tally.most_steps = value;
+    if (call == SCOPE && !some && seniors_in_scope(&o->view, x, y)) tally.seniors_in_scope++;
+}
+
+void try_command(const struct opened *o, const struct command *c, size_t room)
+{
+    static uint8_t lent[GUARD + ROOM + GUARD], want[sizeof lent];
+    const uint8_t *file = lend(o->file, o->len);
+    size_t all = GUARD + room + GUARD;
+
+    now.call = COMMAND, now.file = o->file, now.len = o->len, now.command = c, now.room = room;
+    tally.calls++;
+    tally.commands++;
+    paint(lent, all);
+    memcpy(want, lent, all);
+    uint32_t answer = answer_command(o, c, want + GUARD, room);
+    uint32_t said = subject.command(file, o->len, c->code, c->actor, c->role, c->junior, c->kind, c->a_seniors,
+                                    c->i_seniors, c->a_juniors, c->i_juniors, lent + GUARD, room);
+    if (said != answer) disagree("answer %#x, the model %#x", said, answer);
+    if (memcmp(lent, want, all) != 0) disagree("answer %#x, other bytes in the buffer or around it", said);
+    if (memcmp(file, o->file, o->len) != 0) disagree("the file was touched");
+
+    tally.command[code_class(c)][BOARD_PLACE(answer)][BOARD_NUMBER(answer)]++;
+    if (BOARD_NUMBER(answer) == 0 && BOARD_VALUE(answer) == room) tally.room_exact++;
+    if (BOARD_NUMBER(answer) == 12 && room == 0) tally.room_none++;
+}
+
+/* ---- replay */
+
+static void replay_apply(char *words)
+{
+    static struct board b;
+    static struct view v, after;
+    static struct command c;
+    unsigned long long set, s[4];
+    unsigned n[5], row;
+    memset(&b, 0, sizeof b);
+    for (char *w = strtok(words, " \n"); w != NULL; w = strtok(NULL, " \n")) {
+        if (sscanf(w, "live=%llx", &set) == 1) b.live = set;
+        else if (sscanf(w, "i%u=%llx", &row, &set) == 2 && row < ROLES) b.i[row] = set;
+        else if (sscanf(w, "a%u=%llx", &row, &set) == 2 && row < ROLES) b.a[row] = set;
+        else if (sscanf(w, "numbers=%u,%u,%u,%u,%u,%llx,%llx,%llx,%llx", n, n + 1, n + 2, n + 3, n + 4, s, s + 1,
+                        s + 2, s + 3) == 9)
+            c = (struct command){n[0], n[1], n[2], n[3], n[4], s[0], s[1], s[2], s[3]};
+    }
+    from_board(&b, &v.board);
+    look(&v);
+    uint8_t number = try_apply(&v, &b, &c, &after);
+    printf("agreed: apply gives %u\n", number);
+}
+
+static void replay_file(enum call call, char *words)
+{
+    static uint8_t file[BUFFER];
+    static struct opened o;
+    static struct command c;
+    unsigned long long s[4];
+    unsigned n[5], x = 0, y = 0;
+    size_t len = 0, room = 0;
+    for (char *w = strtok(words, " \n"); w != NULL; w = strtok(NULL, " \n")) {
+        if (strncmp(w, "file=", 5) == 0)
+            for (w += 5; len < BUFFER && w[0] != 0 && w[1] != 0; w += 2)
+                file[len++] = strtoul((char[]){w[0], w[1], 0}, NULL, 16);
+        else if (sscanf(w, "numbers=%u,%u,%u,%u,%u,%llx,%llx,%llx,%llx", n, n + 1, n + 2, n + 3, n + 4, s, s + 1,
+                        s + 2, s + 3) == 9)
+            c = (struct command){n[0], n[1], n[2], n[3], n[4], s[0], s[1], s[2], s[3]};
+        else if (sscanf(w, "x=%u", &x) != 1 && sscanf(w, "y=%u", &y) != 1) sscanf(w, "room=%zu", &room);
+    }
+    open_file(&o, file, len);
+    if (call == COMMAND) try_command(&o, &c, room <= ROOM ? room : ROOM);
+    else try_question(&o, call, x, y);
+    printf("agreed: %s, file number %u\n", call_name[call], o.number);
+}
+
+int replay(const char *name)
+{
+    static char line[3 * BUFFER];
+    FILE *from = strcmp(name, "-") == 0 ? stdin : fopen(name, "r");
+    int cases = 0;
+    if (from == NULL) {
+        perror(name);
+        return 2;
+    }
+    while (fgets(line, sizeof line, from) != NULL) {
+        char *word = strstr(line, "replay: ");
+        if (word == NULL) continue;
+        word += strlen("replay: ");
+        for (int call = 0; call < CALL_COUNT; call++) {
+            size_t len = strlen(call_name[call]);
+            if (strncmp(word, call_name[call], len) != 0 || word[len] != ' ') continue;
+            if (call == APPLY) replay_apply(word + len);
+            else replay_file(call, word + len);
+            cases++;
+        }
+    }
+    if (from != stdin) fclose(from);
+    printf("%d cases replayed, 0 disagreements\n", cases);
+    return cases > 0 ? 0 : 2;
+}

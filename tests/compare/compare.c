@@ -1,0 +1,310 @@
+/* Runs the model against the subject until enough commands and files have been tried.
+ *
+ *   compare --sample | --full [--seed N] [--no-examples]
+ *   compare --replay FILE        the line that a disagreement printed
+ *   compare --examples
+ *
+ * Status 0: all agreed, every class filled. 1: a disagreement. 3: agreed, but a class is not filled. */
+#include "compare.h"
+#include <stdio.h>
+#include <stdlib.h>
+#include <string.h>
+
+struct size {
+    long commands, files, least; /* least: of every class */
+};
+static const struct size sample = {12000, 3600, 8}, full = {1000000, 300000, 1000};
+
+/* ---- commands on boards */
+
+static struct view here, after;
+static struct board board;
+
+static void start(void)
+{
+    look(&here);
+    to_board(&here.board, &board);
+}
+
+static int role_count(const struct model *m)
+{
+    int n = 0;
+    for (int x = 0; x < ROLES; x++) n += m->live[x];
+    return n;
+}
+
+static int edge_count(const struct model *m)
+{
+    int n = 0;
+    for (int x = 0; x < ROLES; x++)
+        for (int y = 0; y < ROLES; y++) n += m->kind[x][y] != 0;
+    return n;
+}
+
+/* One command after another on the same board. */
+static void run_commands(int count)
+{
+    struct command c;
+    for (int k = 0; k < count; k++) {
+        draw_command(&here, &c);
+        if (role_count(&here.board) == ROLES) tally.full_roles++;
+        if (edge_count(&here.board) == EDGES) tally.full_edges++;
+        if (try_apply(&here, &board, &c, &after) != 0) continue;
+        here = after;
+        to_board(&here.board, &board);
+    }
+}
+
+/* Adds roles only, so that the board grows by commands to the size wanted. */
+static void grow(int roles)
+{
+    struct command c;
+    for (int k = 0; k < 20 * roles && role_count(&here.board) < roles; k++) {
+        do draw_command(&here, &c);
+        while (c.code != ADD_ROLE);
+        if (try_apply(&here, &board, &c, &after) != 0) continue;
+        here = after;
+        to_board(&here.board, &board);
+    }
+}
+
+static void grown_boards(void)
+{
+    found(&here.board);
+    start();
+    grow(chance(95) ? 3 + below(10) : chance(90) ? 13 + below(20) : ROLES);
+    run_commands(60);
+}
+
+static void drawn_boards(void)
+{
+    draw_sound(&here, chance(90) ? 9 : 20);
+    start();
+    run_commands(12);
+}
+
+static void unsound_boards(void)
+{
+    struct command c;
+    for (int way = 0; way < UNSOUND_WAYS; way++) {
+        if (!draw_unsound(way, &here, &board)) continue;
+        draw_command(&here, &c);
+        if (chance(30)) c.code = below(7);
+        uint8_t number = try_apply(&here, &board, &c, &after);
+        if (number != 1) disagree("%s: made to be unsound, and both give %u", unsound_way[way], number);
+        tally.unsound[way]++;
+    }
+}
+
+/* ---- files */
+
+static struct opened opened;
+static uint8_t file[BUFFER];
+
+/* Mostly a role of the board, at times one that isn't live or is no role. */
+static uint8_t some_role(void)
+{
+    int r = below(ROLES);
+    if (chance(6)) return chance(50) ? ROLES : ROLES + below(256 - ROLES);
+    if (chance(8)) return r;
+    for (int k = 0; k < ROLES && !opened.view.board.live[r]; k++) r = (r + 1) % ROLES;
+    return r;
+}
+
+/* Long enough, exactly so, one byte short, nothing, or any. */
+static size_t some_room(const struct command *c)
+{
+    static uint8_t out[ROOM];
+    if (chance(60)) return chance(90) ? 1000 : ROOM;
+    if (chance(15)) return 0;
+    if (chance(20)) return below(FILE_MOST + 20);
+    uint32_t answer = answer_command(&opened, c, out, ROOM);
+    if (BOARD_NUMBER(answer) != 0) return below(200);
+    if (chance(50)) return BOARD_VALUE(answer);
+    tally.room_short++;
+    return BOARD_VALUE(answer) - 1;
+}
+
+static void ask_some(int commands, int questions)
+{
+    struct command c;
+    try_question(&opened, CHECK, 0, 0);
+    for (int k = 0; k < questions; k++) {
+        enum call call = DERIVES + below(STRETCH - DERIVES + 1);
+        uint8_t x = some_role(), y = chance(5) ? x : some_role();
+        try_question(&opened, call, x, y);
+    }
+    for (int k = 0; k < commands; k++) {
+        draw_command(&opened.view, &c);
+        if (opened.number != 0 && chance(50)) c.code = below(7); /* the file's refusal comes first, whatever the code */
+        try_command(&opened, &c, some_room(&c));
+    }
+}
+
+static void ask_everything(void)
+{
+    const bool *live = opened.view.board.live;
+    for (int x = 0; x <= ROLES; x++) {
+        for (int call = MANAGER; call <= STRETCH; call++) try_question(&opened, call, x, 0);
+        for (int y = 0; y < ROLES && x < ROLES && live[x]; y++) {
+            if (!live[y]) continue;
+            try_question(&opened, DERIVES, x, y);
+            try_question(&opened, SCOPE, x, y);
+        }
+    }
+}
+
+static bool try_file(int damage, struct view *v)
+{
+    size_t len = make_file(damage, v, file);
+    if (len == 0 && damage != EMPTY) return false;
+    open_file(&opened, file, len);
+    tally.files++;
+    tally.damage[damage][opened.number]++;
+    if (len == FILE_MOST) tally.longest_file++;
+    if (len == FILE_MOST + 1) tally.too_long_file++;
+    if (len == FILE_MOST && opened.number == 7) tally.many_edges++;
+    ask_some(damage == AS_WRITTEN ? 4 : 1, 2);
+    if (damages[damage].number != ANY_NUMBER && opened.number != damages[damage].number) {
+        try_question(&opened, CHECK, 0, 0);
+        disagree("%s: made to give %u, and both give %u", damages[damage].name, damages[damage].number, opened.number);
+    }
+    return true;
+}
+
+static void files_of_a_board(void)
+{
+    static struct view v;
+    for (int damage = 0; damage < damage_count; damage++) {
+        if (damages[damage].long_file && !chance(25)) continue;
+        for (int k = 0; k < 4; k++) { /* not every board can be damaged so */
+            draw_sound(&v, chance(95) ? 10 : 40);
+            if (try_file(damage, &v)) break;
+        }
+    }
+    for (int k = 0; k < 8; k++) {
+        draw_sound(&v, 12);
+        if (try_file(AS_WRITTEN, &v) && chance(5)) ask_everything();
+    }
+}
+
+/* ---- what chance alone seldom meets */
+
+static void try_both(const struct command *c)
+{
+    try_apply(&here, &board, c, &after);
+    open_file(&opened, file, make_file(AS_WRITTEN, &here, file));
+    try_command(&opened, c, ROOM);
+}
+
+static void rare_refusals(void)
+{
+    struct command c;
+    draw_tied(&here);
+    start();
+    if (draw_refused(&here, ADD_ROLE, 9, &c)) try_both(&c);
+    if (draw_refused(&here, ADD_EDGE, 9, &c)) try_both(&c);
+    if (draw_refused(&here, CHANGE_EDGE, 9, &c)) try_both(&c);
+    open_file(&opened, file, make_file(AS_WRITTEN, &here, file));
+    for (int k = 0; k < 10; k++) {
+        uint8_t a = some_role(), r = some_role();
+        try_question(&opened, SCOPE, a, r);
+    }
+    draw_chained(&here);
+    start();
+    if (draw_refused(&here, ADD_ROLE, 7, &c)) try_both(&c);
+    if (draw_hidden_loop(&here, &c)) try_both(&c);
+}
+
+/* ---- all that is largest */
+
+static void largest_boards(void)
+{
+    static struct view v;
+    struct command c;
+    switch (below(4)) {
+    case 0: draw_tree(&here, ROLES); break;
+    case 1: draw_tree(&here, ROLES - 1); break; /* one role is free */
+    default: draw_full(&here, chance(50));
+    }
+    v = here;
+    start();
+    run_commands(6);
+    v = chance(50) ? v : here;
+    try_file(AS_WRITTEN, &v);
+    draw_command(&opened.view, &c);
+    try_command(&opened, &c, chance(50) ? FILE_MOST : FILE_MOST - 1);
+}
+
+/* A chain: role 0 is 63 steps away. */
+static void deepest_board(void)
+{
+    static struct view v;
+    found(&v.board);
+    for (int x = 1; x < ROLES; x++) {
+        v.board.live[x] = true;
+        v.board.kind[x - 1][x] = 1 + below(3);
+    }
+    look(&v);
+    try_file(AS_WRITTEN, &v);
+    for (int x = 0; x <= ROLES; x++) {
+        try_question(&opened, STEPS, x, 0);
+        try_question(&opened, MANAGER, x, 0);
+        try_question(&opened, STRETCH, x, 0);
+    }
+}
+
+/* ---- the run */
+
+static int run(const struct size *size, uint64_t seed)
+{
+    seed_with(seed);
+    for (long round = 0; tally.commands < size->commands || tally.files < size->files; round++) {
+        grown_boards();
+        for (int k = 0; k < 5; k++) drawn_boards();
+        unsound_boards();
+        files_of_a_board();
+        rare_refusals();
+        if (round % 2 == 0) largest_boards();
+        if (round == 0) deepest_board();
+    }
+    int wanting = print_tally(size->least);
+    printf("\nseed %llu: %ld commands, %ld files, %ld calls in all, 0 disagreements, %d classes wanting\n",
+           (unsigned long long)seed, tally.commands, tally.files, tally.calls, wanting);
+    return wanting == 0 ? 0 : 3;
+}
+
+static int examples(void)
+{
+    struct calls model = CALLS(model), subject = CALLS_OF(SUBJECT);
+    int wrong = wrong_examples("model", &model);
+    if (!join_associates()) printf("the join table depends on how a path is bracketed\n"), wrong++;
+    if (wrong == 0) wrong = wrong_examples(SUBJECT_NAME, &subject);
+    if (wrong == 0) printf("the scope document's examples: right in the model and in the " SUBJECT_NAME "\n");
+    return wrong == 0 ? 0 : 1;
+}
+
+int main(int argc, char **argv)
+{
+    const struct size *size = NULL;
+    bool with_examples = true;
+    uint64_t seed = 1;
+    setvbuf(stdout, NULL, _IOLBF, 0);
+    watch_for_crashes();
+    for (int k = 1; k < argc; k++) {
+        if (strcmp(argv[k], "--sample") == 0) size = &sample;
+        else if (strcmp(argv[k], "--full") == 0) size = &full;
+        else if (strcmp(argv[k], "--no-examples") == 0) with_examples = false;
+        else if (strcmp(argv[k], "--seed") == 0 && k + 1 < argc) seed = strtoull(argv[++k], NULL, 10);
+        else if (strcmp(argv[k], "--replay") == 0 && k + 1 < argc) return replay(argv[k + 1]);
+        else if (strcmp(argv[k], "--examples") == 0) return examples();
+        else size = NULL, k = argc;
+    }
+    if (size == NULL) {
+        fprintf(stderr, "usage: compare --sample | --full [--seed N] [--no-examples] | --replay FILE | --examples\n");
+        return 2;
+    }
+    printf("the model against the " SUBJECT_NAME ", seed %llu\n", (unsigned long long)seed);
+    if (with_examples && examples() != 0) return 1;
+    return run(size, seed);
+}

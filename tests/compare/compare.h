@@ -1,0 +1,74 @@
+/* The comparison: the model against the subject, through board.h alone. */
+#ifndef COMPARE_H
+#define COMPARE_H
+
+#include "model/model.h"
+
+/* ---- chance.c: numbers drawn from a seed */
+void seed_with(uint64_t seed);
+uint64_t draw64(void);
+int below(int n); /* 0 to n - 1 */
+bool chance(int percent);
+
+/* ---- draw.c: boards and commands */
+void draw_sound(struct view *v, int most);  /* sound, at most so many roles, mixed kinds */
+void draw_tree(struct view *v, int roles);  /* every role but 0 has one senior: sound whatever the kinds */
+void draw_full(struct view *v, bool mixed); /* 64 roles, 2,016 edges: sound whatever the kinds */
+void draw_any(struct view *v, int most);    /* no loop, and mostly not sound */
+void draw_tied(struct view *v);             /* small, sound, and easily left with a role unmanaged */
+void draw_chained(struct view *v);          /* small, sound, with roles that reach what they don't derive */
+void draw_command(const struct view *v, struct command *c);
+/* Draws until the model gives this number, or gives up: some numbers are rare. */
+bool draw_refused(const struct view *v, int code, int number, struct command *c);
+/* An edge whose junior reaches its senior and doesn't derive it. */
+bool draw_hidden_loop(const struct view *v, struct command *c);
+
+enum { UNSOUND_WAYS = 8 };
+extern const char *const unsound_way[UNSOUND_WAYS];
+bool draw_unsound(int way, struct view *v, struct board *b); /* false: this board can't be spoilt so */
+
+/* ---- damage.c: board files, good and bad */
+enum { ANY_NUMBER = 255, BUFFER = 65536 + FILE_MAX, ROOM = 16384 };
+struct parts; /* role bytes and edge records */
+struct damage {
+    const char *name;
+    uint8_t number; /* the number that the way of making it demands, or ANY_NUMBER */
+    bool (*record)(struct parts *, struct view *);
+    size_t (*frame)(uint8_t *, size_t);
+    bool long_file; /* dear, so made less often */
+};
+extern const struct damage damages[];
+extern const int damage_count;
+enum { EMPTY, AS_WRITTEN }; /* the first two of the list; the first alone has no bytes */
+size_t make_file(int damage, struct view *v, uint8_t *file); /* the length; 0: v can't be damaged so, or EMPTY */
+
+/* ---- cases.c: one call at a time, on both sides */
+enum call { APPLY, COMMAND, CHECK, DERIVES, SCOPE, MANAGER, STEPS, STRETCH, CALL_COUNT };
+extern const char *const call_name[CALL_COUNT];
+
+/* Both sides get the board and the command; the number and the board afterwards must agree.
+ * `after` is the model's board afterwards where the number is 0. */
+uint8_t try_apply(const struct view *v, const struct board *b, const struct command *c, struct view *after);
+void try_question(const struct opened *o, enum call call, uint8_t x, uint8_t y);
+void try_command(const struct opened *o, const struct command *c, size_t room);
+void disagree(const char *what, ...); /* prints the case in hand and ends the program */
+int replay(const char *name);         /* a file of case lines, or "-" */
+void watch_for_crashes(void);
+
+/* ---- tally.c: how often each number arose */
+struct tally {
+    long commands, files, calls;
+    long apply[6][13];
+    long command[6][3][13];
+    long question[CALL_COUNT][3][13];
+    long value[CALL_COUNT][2]; /* number 0 with value: none or no, some or yes */
+    long unsound[UNSOUND_WAYS];
+    long damage[64][13];
+    long full_roles, full_edges, longest_file, too_long_file, many_edges; /* edges of size */
+    long room_exact, room_short, room_none, idle_change, most_steps;
+    long hidden_loop, seniors_in_scope; /* where a careful reader slips */
+};
+extern struct tally tally;
+int print_tally(long least); /* how many classes are not filled, or filled though they can't be */
+
+#endif

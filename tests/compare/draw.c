@@ -1,0 +1,458 @@
+/* Boards drawn as graphs, and commands that stand a fair chance of each number. */
+#include "compare.h"
+#include <string.h>
+
+/* ---- boards */
+
+/* Every board leans to some kinds, so that all-I, all-A and mixed boards all come up. */
+static int lean;
+static uint8_t draw_kind(void) { return lean < 3 && chance(75) ? lean + 1 : 1 + below(3); }
+static void draw_edge(struct model *m, int senior, int junior) { m->kind[senior][junior] = draw_kind(); }
+
+/* The founding board's role 0 first, then other roles in any order. */
+static void draw_order(int order[ROLES])
+{
+    for (int k = 0; k < ROLES; k++) order[k] = k;
+    for (int k = 1; k < ROLES - 1; k++) {
+        int other = k + below(ROLES - k), role = order[k];
+        order[k] = order[other];
+        order[other] = role;
+    }
+}
+
+static void draw_edges(struct model *m, const int order[ROLES], int roles, int percent)
+{
+    found(m);
+    lean = below(5);
+    for (int k = 1; k < roles; k++) {
+        m->live[order[k]] = true;
+        if (chance(95)) draw_edge(m, order[below(k)], order[k]);
+        for (int s = 0; s < k; s++)
+            if (chance(percent)) draw_edge(m, order[s], order[k]);
+    }
+}
+
+void draw_tree(struct view *v, int roles)
+{
+    int order[ROLES], reach = 1 + below(roles);
+    draw_order(order);
+    found(&v->board);
+    lean = below(5);
+    for (int k = 1; k < roles; k++) {
+        int senior = k - 1 - below(k < reach ? k : reach);
+        v->board.live[order[k]] = true;
+        draw_edge(&v->board, order[senior], order[k]);
+    }
+    look(v);
+}
+
+void draw_full(struct view *v, bool mixed)
+{
+    int order[ROLES];
+    draw_order(order);
+    found(&v->board);
+    for (int k = 1; k < ROLES; k++) {
+        v->board.live[order[k]] = true;
+        for (int s = 0; s < k; s++) v->board.kind[order[s]][order[k]] = mixed ? 1 + below(3) : 3;
+    }
+    look(v);
+}
+
+/* Roles 0 derives by I, and below one of them roles it doesn't derive, with two A-seniors each: one more A edge from
+ * another side, and such a role has no administrator. Chance alone makes few of these. */
+static void draw_knot(struct model *m, const int order[ROLES])
+{
+    int tops = 2 + below(2), middles = 2 + below(2), bottoms = 1 + below(2), roles = 1 + tops + middles + bottoms;
+    found(m);
+    lean = 3;
+    for (int k = 1; k < roles; k++) {
+        int r = order[k], manager = order[1], middle = 1 + tops, bottom = middle + middles;
+        m->live[r] = true;
+        if (k < middle) m->kind[0][r] = chance(85) ? 1 : 3;
+        else if (k < bottom) {
+            m->kind[manager][r] = 2;
+            if (chance(60)) m->kind[0][r] = 1;
+            if (chance(25)) m->kind[order[2]][r] = 1;
+        } else {
+            m->kind[order[middle]][r] = m->kind[order[middle + 1]][r] = 2;
+            if (middles == 3 && chance(50)) m->kind[order[middle + 2]][r] = 2;
+        }
+    }
+    if (chance(40)) {
+        int k = 1 + below(roles - 1);
+        draw_edge(m, order[below(k)], order[k]);
+    }
+}
+
+/* All by I from 0, and below it a chain of A and I by turns: closed to a ring it derives nothing of itself. */
+static void draw_chain(struct model *m, const int order[ROLES])
+{
+    int roles = 5 + below(4), turn = below(2);
+    found(m);
+    lean = 3;
+    for (int k = 1; k < roles; k++) {
+        m->live[order[k]] = true;
+        m->kind[0][order[k]] = 1;
+        if (k > 1) m->kind[order[k - 1]][order[k]] = 1 + (k + turn) % 2;
+    }
+}
+
+void draw_any(struct view *v, int most)
+{
+    int order[ROLES], roles = 2 + below(most - 1);
+    draw_order(order);
+    if (most > 8 && chance(30)) draw_knot(&v->board, order);
+    else if (most > 8 && chance(15)) draw_chain(&v->board, order);
+    else draw_edges(&v->board, order, roles, 5 + below(60));
+    look(v);
+}
+
+static void drop_role(struct model *m, int r)
+{
+    m->live[r] = false;
+    for (int x = 0; x < ROLES; x++) m->kind[x][r] = m->kind[r][x] = 0;
+}
+
+/* Roles without an administrator go, one at a time, until none is left. */
+static void make_sound(struct view *v)
+{
+    look(v);
+    while (unmanaged(v)) {
+        int r = 1 + below(ROLES - 1);
+        for (;; r = r % (ROLES - 1) + 1) {
+            bool managed = false;
+            if (!v->board.live[r]) continue;
+            for (int a = 0; a < ROLES && !managed; a++) managed = administers(v, a, r);
+            if (!managed) break;
+        }
+        drop_role(&v->board, r);
+        look(v);
+    }
+}
+
+void draw_sound(struct view *v, int most)
+{
+    if (chance(20)) {
+        draw_tree(v, 1 + below(most));
+        return;
+    }
+    draw_any(v, most);
+    make_sound(v);
+}
+
+void draw_tied(struct view *v)
+{
+    int order[ROLES];
+    draw_order(order);
+    draw_knot(&v->board, order);
+    make_sound(v);
+}
+
+void draw_chained(struct view *v)
+{
+    int order[ROLES];
+    draw_order(order);
+    draw_chain(&v->board, order);
+    look(v);
+}
+
+/* ---- picking roles of a board */
+
+static int pick(const bool among[ROLES])
+{
+    int r = below(ROLES);
+    for (int k = 0; k < ROLES; k++, r = (r + 1) % ROLES)
+        if (among[r]) return r;
+    return NONE;
+}
+
+/* A dead role, or NONE. The walk from a random number favours some roles; it matters to nobody here. */
+static int pick_dead(const struct model *m)
+{
+    bool dead[ROLES];
+    for (int x = 0; x < ROLES; x++) dead[x] = !m->live[x];
+    return pick(dead);
+}
+
+static int pick_live(const struct model *m)
+{
+    int live[ROLES], count = 0;
+    for (int x = 0; x < ROLES; x++)
+        if (m->live[x]) live[count++] = x;
+    return count > 0 ? live[below(count)] : 0;
+}
+
+static int roles_in_scope(const struct view *v, int a, int scope[ROLES])
+{
+    int count = 0;
+    for (int r = 0; r < ROLES; r++)
+        if (in_scope(v, a, r)) scope[count++] = r;
+    return count;
+}
+
+static bool pick_edge(const struct model *m, uint8_t *senior, uint8_t *junior)
+{
+    int x = below(ROLES), y = below(ROLES);
+    for (int k = 0; k < ROLES; k++, x = (x + 1) % ROLES) {
+        if (!m->live[x]) continue;
+        for (int l = 0; l < ROLES; l++, y = (y + 1) % ROLES) {
+            if (m->kind[x][y] == 0) continue;
+            *senior = x, *junior = y;
+            return true;
+        }
+    }
+    return false;
+}
+
+/* ---- unsound boards */
+
+const char *const unsound_way[UNSOUND_WAYS] = {
+    "entry from a role that isn't live", "entry to a role that isn't live", "a loop", "a role's edge to itself",
+    "role 0 isn't live", "a role without an administrator", "an entry on an empty board", "noise"};
+
+bool draw_unsound(int way, struct view *v, struct board *b)
+{
+    struct model *m = &v->board;
+    int x, y;
+    draw_sound(v, 10);
+    switch (way) {
+    case 0:
+        x = pick_dead(m), y = chance(80) ? pick_live(m) : pick_dead(m);
+        draw_edge(m, x, y);
+        break;
+    case 1:
+        x = pick_live(m), y = pick_dead(m);
+        draw_edge(m, x, y);
+        break;
+    case 2:
+        x = pick_live(m), y = pick_live(m);
+        if (!v->reaches[x][y]) return false;
+        draw_edge(m, y, x);
+        break;
+    case 3:
+        x = chance(70) ? pick_live(m) : below(ROLES);
+        draw_edge(m, x, x);
+        break;
+    case 4:
+        if (chance(50)) drop_role(m, 0);
+        else m->live[0] = false;
+        break;
+    case 5:
+        if (chance(50)) m->live[pick_dead(m)] = true;
+        else {
+            draw_any(v, 10);
+            if (!unmanaged(v)) return false;
+        }
+        break;
+    case 6:
+        memset(m, 0, sizeof *m);
+        x = below(ROLES), y = below(ROLES);
+        if (chance(70)) draw_edge(m, x, y);
+        break;
+    default: break;
+    }
+    to_board(m, b);
+    if (way == 7) {
+        b->live = draw64() | chance(50);
+        for (x = 0; x < ROLES; x++) b->i[x] = draw64(), b->a[x] = draw64() & draw64();
+        from_board(b, m);
+    }
+    look(v);
+    return true;
+}
+
+/* ---- commands */
+
+static uint64_t one(int r) { return r < ROLES ? 1ull << r : 0; }
+
+/* Into the first set, the second or both. */
+static void name(int r, uint64_t *i, uint64_t *a)
+{
+    int kind = draw_kind();
+    if (kind != 2) *i |= one(r);
+    if (kind != 1) *a |= one(r);
+}
+
+static void fair_add_role(const struct view *v, struct command *c)
+{
+    int scope[ROLES], count = roles_in_scope(v, c->actor, scope), dead = pick_dead(&v->board);
+    c->role = dead == NONE ? below(ROLES) : dead;
+    c->a_seniors = c->i_seniors = c->a_juniors = c->i_juniors = 0;
+    for (int k = chance(5) ? 0 : 1 + below(2); k > 0; k--) name(scope[below(count)], &c->i_seniors, &c->a_seniors);
+    if (chance(40)) c->i_seniors |= one(c->actor);
+    for (int k = chance(50) ? 0 : 1 + below(2); k > 0; k--) {
+        int junior = scope[below(count)];
+        if (junior != c->actor) name(junior, &c->i_juniors, &c->a_juniors);
+    }
+    /* most juniors that are above a senior go, or nearly all would end in a loop */
+    if (chance(80))
+        for (int s = 0; s < ROLES; s++)
+            for (int j = 0; j < ROLES && in(c->a_seniors | c->i_seniors, s); j++)
+                if (j == s || v->reaches[j][s]) c->a_juniors &= ~one(j), c->i_juniors &= ~one(j);
+}
+
+static void fair_remove_role(const struct view *v, struct command *c)
+{
+    int scope[ROLES], count = roles_in_scope(v, c->actor, scope);
+    c->role = scope[below(count)];
+}
+
+static void fair_add_edge(const struct view *v, struct command *c)
+{
+    int scope[ROLES], count = roles_in_scope(v, c->actor, scope);
+    bool upward = chance(20); /* a loop, mostly */
+    for (int k = 0; k < 12; k++) {
+        c->role = scope[below(count)], c->junior = scope[below(count)];
+        if (v->board.kind[c->role][c->junior] != 0) continue;
+        if (upward || (c->role != c->junior && !v->reaches[c->junior][c->role])) break;
+    }
+}
+
+static void fair_old_edge(const struct view *v, struct command *c)
+{
+    if (!pick_edge(&v->board, &c->role, &c->junior)) {
+        c->role = c->junior = 0;
+        return;
+    }
+    for (int k = 0; k < 8; k++) {
+        if (in_scope(v, c->actor, c->role) && in_scope(v, c->actor, c->junior)) break;
+        c->actor = k == 0 ? c->role : pick_live(&v->board);
+    }
+}
+
+static uint8_t out_of_range(void) { return chance(40) ? ROLES : ROLES + below(256 - ROLES); }
+
+static void spoil_range(struct command *c)
+{
+    switch (below(4)) {
+    case 0: c->actor = out_of_range(); break;
+    case 1: c->role = out_of_range(); break;
+    case 2:
+        if (c->code >= ADD_EDGE) c->junior = out_of_range();
+        else c->role = out_of_range();
+        break;
+    default:
+        if (c->code == ADD_EDGE || c->code == CHANGE_EDGE) c->kind = chance(50) ? 0 : 4 + below(chance(50) ? 1 : 252);
+        else c->actor = out_of_range();
+    }
+}
+
+static void spoil_live(const struct view *v, struct command *c)
+{
+    int dead = pick_dead(&v->board);
+    if (dead == NONE) return;
+    if (chance(30)) {
+        c->actor = dead;
+        return;
+    }
+    switch (c->code == ADD_ROLE ? below(5) : 5 + below(2)) {
+    case 0: c->a_seniors |= one(dead); break;
+    case 1: c->i_seniors |= one(dead); break;
+    case 2: c->a_juniors |= one(dead); break;
+    case 3: c->i_juniors |= one(dead); break;
+    case 4: *(chance(50) ? &c->i_seniors : &c->a_juniors) |= one(c->role); break; /* the new role in its own sets */
+    case 5: c->role = dead; break;
+    default: *(c->code >= ADD_EDGE ? &c->junior : &c->role) = dead;
+    }
+    if (c->code == ADD_ROLE && chance(20)) c->role = pick_live(&v->board); /* 4 holds too */
+}
+
+static void spoil_scope(const struct view *v, struct command *c)
+{
+    const struct model *m = &v->board;
+    switch (below(c->code == ADD_ROLE ? 4 : 3)) {
+    case 0: c->actor = pick_live(m); break;
+    case 1:
+        if (c->code == ADD_ROLE) name(pick_live(m), &c->i_seniors, &c->a_seniors);
+        else if (c->code == REMOVE_ROLE || c->code == ADD_EDGE) c->role = pick_live(m);
+        else c->actor = pick_live(m);
+        break;
+    case 2:
+        if (c->code == ADD_ROLE) name(pick_live(m), &c->i_juniors, &c->a_juniors);
+        else if (c->code == ADD_EDGE) c->junior = pick_live(m);
+        else c->actor = pick_live(m);
+        break;
+    default: name(c->actor, &c->i_juniors, &c->a_juniors); /* the actor is not in its strict scope */
+    }
+}
+
+static void spoil_standing(const struct view *v, struct command *c)
+{
+    const struct model *m = &v->board;
+    uint8_t turned = c->role;
+    switch (c->code) {
+    case ADD_ROLE: c->role = pick_live(m); break;
+    case ADD_EDGE: pick_edge(m, &c->role, &c->junior); break;
+    case REMOVE_EDGE:
+    case CHANGE_EDGE:
+        if (chance(50)) c->role = c->junior, c->junior = turned;
+        else if (chance(30)) c->junior = c->role;
+        else c->role = pick_live(m), c->junior = pick_live(m);
+    }
+}
+
+/* What a command doesn't use may hold anything, so every field starts as noise. */
+static void noise(struct command *c)
+{
+    uint64_t n = draw64();
+    *c = (struct command){n, n >> 8, n >> 16, n >> 24, n >> 32, 0, 0, 0, 0};
+    c->a_seniors = draw64(), c->i_seniors = draw64(), c->a_juniors = draw64(), c->i_juniors = draw64();
+    if (chance(50)) c->junior &= 63, c->kind &= 3;
+    if (chance(30)) c->a_seniors = c->i_seniors = c->a_juniors = c->i_juniors = 0;
+}
+
+static void draw_of_code(const struct view *v, int code, struct command *c)
+{
+    noise(c);
+    c->code = code;
+    c->actor = chance(30) ? 0 : pick_live(&v->board);
+    if (!v->board.live[c->actor]) return; /* an empty board: no fair command */
+    switch (c->code) {
+    case ADD_ROLE: fair_add_role(v, c); break;
+    case REMOVE_ROLE: fair_remove_role(v, c); break;
+    case ADD_EDGE: fair_add_edge(v, c); break;
+    default: fair_old_edge(v, c);
+    }
+    if (c->code == ADD_EDGE || c->code == CHANGE_EDGE) c->kind = 1 + below(3);
+}
+
+void draw_command(const struct view *v, struct command *c)
+{
+    static const uint8_t codes[] = {1, 1, 1, 2, 3, 3, 3, 4, 5, 5};
+    if (chance(2)) { /* a code outside 1 to 5, whatever else */
+        noise(c);
+        if (c->code >= 1 && c->code <= 5) c->code = chance(50) ? 0 : 6;
+        return;
+    }
+    draw_of_code(v, codes[below(sizeof codes)], c);
+    if (chance(65)) return;
+    switch (below(5)) {
+    case 0: spoil_range(c); break;
+    case 1: spoil_live(v, c); break;
+    case 2: spoil_standing(v, c); break;
+    default: spoil_scope(v, c);
+    }
+    if (chance(20)) spoil_scope(v, c); /* two faults at once: the order counts */
+    if (chance(10)) spoil_range(c);
+    if (chance(10)) spoil_live(v, c);
+}
+
+bool draw_refused(const struct view *v, int code, int number, struct command *c)
+{
+    static struct view after;
+    for (int k = 0; k < 30; k++) {
+        draw_of_code(v, code, c);
+        if (decide(v, c, &after) == number) return true;
+    }
+    return false;
+}
+
+bool draw_hidden_loop(const struct view *v, struct command *c)
+{
+    for (int k = 0; k < 200; k++) {
+        draw_of_code(v, ADD_EDGE, c);
+        c->actor = 0, c->role = pick_live(&v->board), c->junior = pick_live(&v->board);
+        if (v->reaches[c->junior][c->role] && !v->derives[c->junior][c->role]) return true;
+    }
+    return false;
+}

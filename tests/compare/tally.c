@@ -1,0 +1,166 @@
+/* What the run has met, and whether that was enough. */
+#include "compare.h"
+#include <stdio.h>
+#include <string.h>
+
+struct tally tally;
+
+static long enough;
+static int wanting;
+
+static void need(long count, const char *what, const char *of)
+{
+    if (count >= enough) return;
+    printf("NOT FILLED: %s, %s: %ld of %ld\n", what, of, count, enough);
+    wanting++;
+}
+
+static void never(long count, const char *what, const char *of)
+{
+    if (count == 0) return;
+    printf("CAN'T BE: %s, %s: %ld\n", what, of, count);
+    wanting++;
+}
+
+/* Which refusals a command of each code can meet once its board is sound; 0 is any code outside 1 to 5. */
+static const char *const can_give[6] = {"2",           "0 2 3 4 6 7 8 9", "0 2 3 6 9", "0 2 3 4 6 7 9",
+                                        "0 2 3 5 6 9", "0 2 3 5 6 9"};
+
+static bool can(int code, int number)
+{
+    char digit[2] = {'0' + number, 0};
+    return number < 10 && strstr(can_give[code], digit) != NULL;
+}
+
+static void heading(const char *what, const char *const columns[], int count)
+{
+    printf("%-36s", what);
+    for (int k = 0; k < count; k++) printf("%8s", columns[k]);
+    printf("\n");
+}
+
+static void commands(void)
+{
+    static const char *const name[6] = {"code outside 1 to 5", "1 add role", "2 remove role",
+                                        "3 add edge", "4 remove edge", "5 change edge"};
+    static const char *const columns[] = {"0", "1", "2", "3", "4", "5", "6", "7", "8", "9"};
+    static const char *const more[] = {"0", "2", "3", "4", "5", "6", "7", "8", "9", "w12", "f7", "f9", "f10", "f11"};
+    static const int in_file[] = {7, 9, 10, 11};
+    char what[60];
+
+    heading("board_apply", columns, 10);
+    for (int code = 0; code < 6; code++) {
+        printf("%-36s", name[code]);
+        for (int n = 0; n < 10; n++) printf("%8ld", tally.apply[code][n]);
+        printf("\n");
+    }
+    heading("board_command (w writing, f file)", more, 14);
+    for (int code = 0; code < 6; code++) {
+        printf("%-36s", name[code]);
+        for (int n = 0; n < 10; n++)
+            if (n != 1) printf("%8ld", tally.command[code][ASKED][n]);
+        printf("%8ld", tally.command[code][IN_WRITING][12]);
+        for (int k = 0; k < 4; k++) printf("%8ld", tally.command[code][IN_FILE][in_file[k]]);
+        printf("\n");
+    }
+    for (int code = 0; code < 6; code++) {
+        for (int n = 0; n < 13; n++) {
+            sprintf(what, "code %d gives %d", code, n);
+            if (n == 1 || can(code, n)) need(tally.apply[code][n], "board_apply", what);
+            else never(tally.apply[code][n], "board_apply", what);
+            if (can(code, n)) need(tally.command[code][ASKED][n], "board_command", what);
+            else never(tally.command[code][ASKED][n], "board_command", what);
+            if (n == 12 && can(code, 0)) need(tally.command[code][IN_WRITING][n], "board_command", what);
+            else never(tally.command[code][IN_WRITING][n], "board_command, writing", what);
+        }
+        for (int k = 0; k < 4 && code > 0; k++) {
+            sprintf(what, "code %d, file gives %d", code, in_file[k]);
+            need(tally.command[code][IN_FILE][in_file[k]], "board_command", what);
+        }
+    }
+}
+
+static void questions(void)
+{
+    static const char *const columns[] = {"no/none", "yes/some", "2", "3", "f7", "f9", "f10", "f11"};
+    static const int number[] = {2, 3, 7, 9, 10, 11};
+    char what[20];
+    heading("question (f file)", columns, 8);
+    for (int call = CHECK; call < CALL_COUNT; call++) {
+        printf("%-36s%8ld%8ld", call_name[call], tally.value[call][0], tally.value[call][1]);
+        for (int k = 0; k < 6; k++) printf("%8ld", tally.question[call][k < 2 ? ASKED : IN_FILE][number[k]]);
+        printf("\n");
+    }
+    for (int call = CHECK; call < CALL_COUNT; call++) {
+        need(tally.value[call][0], call_name[call], "no, none or 0");
+        if (call != CHECK) need(tally.value[call][1], call_name[call], "yes or some");
+        for (int k = call == CHECK ? 2 : 0; k < 6; k++) {
+            sprintf(what, "%d", number[k]);
+            need(tally.question[call][k < 2 ? ASKED : IN_FILE][number[k]], call_name[call], what);
+        }
+    }
+}
+
+static void files(void)
+{
+    static const char *const columns[] = {"0", "7", "9", "10", "11"};
+    static const int number[] = {0, 7, 9, 10, 11};
+    heading("board file", columns, 5);
+    for (int d = 0; d < damage_count; d++) {
+        printf("%-36s", damages[d].name);
+        for (int k = 0; k < 5; k++) printf("%8ld", tally.damage[d][number[k]]);
+        printf("\n");
+    }
+    for (int d = 0; d < damage_count; d++) {
+        long all = 0;
+        for (int k = 0; k < 5; k++) all += tally.damage[d][number[k]];
+        need(all, "board file", damages[d].name);
+    }
+}
+
+static void sizes(void)
+{
+    struct {
+        const char *what;
+        long count;
+    } line[] = {
+        {"boards of 64 roles", tally.full_roles},
+        {"boards of 2,016 edges", tally.full_edges},
+        {"files of 6,118 bytes", tally.longest_file},
+        {"files of 6,119 bytes", tally.too_long_file},
+        {"files of 2,017 edges", tally.many_edges},
+        {"room for the file and no more", tally.room_exact},
+        {"room short of one byte", tally.room_short},
+        {"no room at all", tally.room_none},
+        {"change to the same kind, done", tally.idle_change},
+        {"loop, junior not deriving senior", tally.hidden_loop},
+        {"out of scope, all seniors in it", tally.seniors_in_scope},
+    };
+    printf("edges of size, and slips\n");
+    for (size_t k = 0; k < sizeof line / sizeof line[0]; k++) {
+        printf("%-36s%8ld\n", line[k].what, line[k].count);
+        need(line[k].count, "edge of size or slip", line[k].what);
+    }
+    printf("%-36s%8ld\n", "most steps to role 0", tally.most_steps);
+    if (tally.most_steps < ROLES - 1) {
+        printf("NOT FILLED: a walk of 63 steps\n");
+        wanting++;
+    }
+}
+
+int print_tally(long least)
+{
+    enough = least;
+    wanting = 0;
+    printf("\n");
+    commands();
+    printf("unsound boards, all refused with 1\n");
+    for (int way = 0; way < UNSOUND_WAYS; way++) {
+        printf("%-36s%8ld\n", unsound_way[way], tally.unsound[way]);
+        need(tally.unsound[way], "unsound board", unsound_way[way]);
+    }
+    questions();
+    files();
+    sizes();
+    return wanting;
+}

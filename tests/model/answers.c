@@ -1,0 +1,125 @@
+/* board.h's answers, from the model. */
+#include "model.h"
+
+static uint64_t answer(uint8_t number, uint8_t place, uint64_t value)
+{
+    return number | (uint64_t)place << 8 | value << 16;
+}
+
+void open_file(struct opened *o, const uint8_t *file, size_t len)
+{
+    o->file = file;
+    o->len = len;
+    o->number = read_file(file, len, &o->view);
+}
+
+/* The first refusal of a question about x and y: the file's own come first. */
+static bool refused(const struct opened *o, uint8_t x, uint8_t y, uint64_t none, uint64_t *reply)
+{
+    const bool *live = o->view.board.live;
+    if (o->number != 0) *reply = answer(o->number, IN_FILE, none);
+    else if (x >= ROLES || y >= ROLES) *reply = answer(2, ASKED, none);
+    else if (!live[x] || !live[y]) *reply = answer(3, ASKED, none);
+    else return false;
+    return true;
+}
+
+uint32_t answer_check(const struct opened *o)
+{
+    return answer(o->number, o->number != 0 ? IN_FILE : ASKED, 0);
+}
+
+uint32_t answer_derives(const struct opened *o, uint8_t x, uint8_t y)
+{
+    uint64_t reply;
+    if (refused(o, x, y, 0, &reply)) return reply;
+    return answer(0, ASKED, o->view.derives[x][y]);
+}
+
+uint32_t answer_scope(const struct opened *o, uint8_t a, uint8_t r)
+{
+    uint64_t reply;
+    if (refused(o, a, r, 0, &reply)) return reply;
+    return answer(0, ASKED, in_scope(&o->view, a, r) + 2 * scope_count(&o->view, a));
+}
+
+uint32_t answer_manager(const struct opened *o, uint8_t r)
+{
+    uint64_t reply;
+    if (refused(o, r, r, NONE, &reply)) return reply;
+    return answer(0, ASKED, line_manager(&o->view, r));
+}
+
+uint32_t answer_steps(const struct opened *o, uint8_t r)
+{
+    uint64_t reply;
+    if (refused(o, r, r, 0, &reply)) return reply;
+    return answer(0, ASKED, steps(&o->view, r));
+}
+
+uint64_t answer_stretch(const struct opened *o, uint8_t role)
+{
+    uint64_t reply;
+    if (refused(o, role, role, 0, &reply)) return reply;
+    size_t edges = distance(o->file + o->len - TRAILER);
+    uint64_t start = 0, len = 0;
+    for (size_t at = o->len - TRAILER - edges; at < o->len - TRAILER; at += 3) {
+        if (o->file[at] != role) continue;
+        if (len == 0) start = at;
+        len += 3;
+    }
+    return answer(0, ASKED, start + (len << 16));
+}
+
+uint32_t answer_command(const struct opened *o, const struct command *c, uint8_t *out, size_t room)
+{
+    static struct view after;
+    size_t len;
+    if (o->number != 0) return answer(o->number, IN_FILE, 0);
+    uint8_t number = decide(&o->view, c, &after);
+    if (number != 0) return answer(number, ASKED, 0);
+    number = write_file(&after, out, room, 0, &len);
+    return answer(number, number != 0 ? IN_WRITING : ASKED, len);
+}
+
+/* ---- the same with board.h's signatures, each reading the file anew */
+
+static struct opened *opened(const uint8_t *file, size_t len)
+{
+    static struct opened o;
+    open_file(&o, file, len);
+    return &o;
+}
+
+uint8_t model_apply(struct board *b, NINE_NUMBERS)
+{
+    static struct view before, after;
+    struct command c = {code, actor, role, junior, kind, a_seniors, i_seniors, a_juniors, i_juniors};
+    from_board(b, &before.board);
+    look(&before);
+    uint8_t number = decide(&before, &c, &after);
+    if (number == 0) to_board(&after.board, b);
+    return number;
+}
+
+uint32_t model_command(const uint8_t *file, size_t len, NINE_NUMBERS, uint8_t *out, size_t room)
+{
+    struct command c = {code, actor, role, junior, kind, a_seniors, i_seniors, a_juniors, i_juniors};
+    return answer_command(opened(file, len), &c, out, room);
+}
+
+uint32_t model_check(const uint8_t *file, size_t len) { return answer_check(opened(file, len)); }
+uint32_t model_derives(const uint8_t *file, size_t len, uint8_t x, uint8_t y)
+{
+    return answer_derives(opened(file, len), x, y);
+}
+uint32_t model_scope(const uint8_t *file, size_t len, uint8_t a, uint8_t r)
+{
+    return answer_scope(opened(file, len), a, r);
+}
+uint32_t model_manager(const uint8_t *file, size_t len, uint8_t r) { return answer_manager(opened(file, len), r); }
+uint32_t model_steps(const uint8_t *file, size_t len, uint8_t r) { return answer_steps(opened(file, len), r); }
+uint64_t model_stretch(const uint8_t *file, size_t len, uint8_t role)
+{
+    return answer_stretch(opened(file, len), role);
+}

@@ -1,0 +1,203 @@
+/* The scope document's examples, on any implementation of board.h. */
+#include "model.h"
+#include <stdio.h>
+#include <string.h>
+
+static const struct calls *use;
+static const char *user;
+static int wrong;
+
+static void expect(const char *what, uint64_t got, uint64_t want)
+{
+    if (got == want) return;
+    printf("example wrong (%s): %s: %#llx, not %#llx\n", user, what, (unsigned long long)got,
+           (unsigned long long)want);
+    wrong++;
+}
+
+/* A board from lines such as "0 I 1, 1 A 3"; every role named is live. */
+static struct board board_of(const char *edges)
+{
+    struct board b = {1, {0}, {0}};
+    int senior, junior, taken;
+    char kind[3];
+    while (sscanf(edges, " %d %2s %d%n", &senior, kind, &junior, &taken) == 3) {
+        b.live |= 1ull << senior | 1ull << junior;
+        if (strchr(kind, 'I')) b.i[senior] |= 1ull << junior;
+        if (strchr(kind, 'A')) b.a[senior] |= 1ull << junior;
+        edges += taken;
+        if (*edges == ',') edges++;
+    }
+    return b;
+}
+
+static uint8_t file[FILE_MAX];
+static size_t len;
+
+/* Questions below are asked of this board. */
+static void about(const struct board *b)
+{
+    struct model m;
+    from_board(b, &m);
+    len = put_file(&m, file);
+}
+
+static void sound_board(const char *what, const struct board *b)
+{
+    about(b);
+    expect(what, use->check(file, len), 0);
+}
+
+static void derives(int x, int y, bool want)
+{
+    char what[40];
+    sprintf(what, "%d derives %d", x, y);
+    expect(what, use->derives(file, len, x, y), (uint32_t)want << 16);
+}
+
+static void scope(int a, uint64_t want, int count, int live)
+{
+    char what[40];
+    for (int r = 0; r < live; r++) {
+        sprintf(what, "scope of %d has %d", a, r);
+        expect(what, use->scope(file, len, a, r), (uint32_t)(count * 2 + in(want, r)) << 16);
+    }
+}
+
+static void manager(int r, int want)
+{
+    char what[40];
+    sprintf(what, "line manager of %d", r);
+    expect(what, use->manager(file, len, r), (uint32_t)want << 16);
+}
+
+static void walk(int r, int want)
+{
+    char what[40];
+    sprintf(what, "steps from %d", r);
+    expect(what, use->steps(file, len, r), (uint32_t)want << 16);
+}
+
+/* Gives the command, through both calls, and hands back the board afterwards, which a refusal leaves as it was. */
+static struct board gives(const char *what, struct board b, struct command c, uint8_t want)
+{
+    struct board after = b;
+    uint8_t out[FILE_MAX], number;
+    memset(out, 0xee, sizeof out);
+    number = use->apply(&after, c.code, c.actor, c.role, c.junior, c.kind, c.a_seniors, c.i_seniors, c.a_juniors,
+                        c.i_juniors);
+    expect(what, number, want);
+    if (want != 0) expect(what, memcmp(&b, &after, sizeof b) != 0, false);
+
+    about(&b);
+    uint32_t answer = use->command(file, len, c.code, c.actor, c.role, c.junior, c.kind, c.a_seniors, c.i_seniors,
+                                   c.a_juniors, c.i_juniors, out, sizeof out);
+    about(&after);
+    expect(what, answer, want != 0 ? want : (uint32_t)len << 16);
+    if (want == 0) expect(what, memcmp(out, file, len) != 0, false);
+    return after;
+}
+
+static struct command add_role(int actor, int role)
+{
+    return (struct command){.code = 1, .actor = actor, .role = role};
+}
+static struct command remove_role(int actor, int role)
+{
+    return (struct command){.code = 2, .actor = actor, .role = role};
+}
+static struct command edge(int code, int actor, int senior, int junior, int kind)
+{
+    return (struct command){.code = code, .actor = actor, .role = senior, .junior = junior, .kind = kind};
+}
+
+int wrong_examples(const char *whose, const struct calls *of)
+{
+    struct board p = board_of("0 I 1, 1 I 2, 1 A 3");
+    struct board w = board_of("0 I 1, 0 I 2, 0 I 3, 1 A 3, 1 A 4, 3 A 5, 4 A 5");
+    struct board l = board_of("0 I 1, 1 I 2, 2 A 3, 0 A 3");
+    struct board founding = board_of(""), b;
+    struct command c;
+
+    use = of;
+    user = whose;
+    wrong = 0;
+    sound_board("P is sound", &p);
+    sound_board("W is sound", &w);
+    sound_board("L is sound", &l);
+    sound_board("the founding board is sound", &founding);
+    scope(0, 1, 1, 1);
+    manager(0, NONE);
+    walk(0, 0);
+
+    about(&p);
+    derives(0, 2, true);
+    derives(0, 3, false);
+    scope(0, 7, 3, 4);
+    scope(1, 14, 3, 4);
+    manager(1, 0);
+    manager(2, 1);
+    manager(3, 1);
+    walk(3, 2);
+
+    gives("P, 0 changes 1 to 3 into I", p, edge(5, 0, 1, 3, 1), 6);
+    b = gives("P, 1 changes 1 to 3 into I", p, edge(5, 1, 1, 3, 1), 0);
+    about(&b);
+    derives(0, 3, true);
+
+    c = add_role(0, 4);
+    gives("P, 0 adds 4 with no seniors", p, c, 8);
+    c.a_seniors = 1 << 1;
+    gives("P, 0 adds 4 with A-senior 1", p, c, 8);
+    c.a_seniors = 0, c.i_seniors = 1 << 1;
+    gives("P, 0 adds 4 with I-senior 1", p, c, 0);
+
+    gives("P, 0 removes 1", p, remove_role(0, 1), 9);
+    gives("P, 0 removes 0", p, remove_role(0, 0), 6);
+    b = gives("P, 1 removes 2", p, remove_role(1, 2), 0);
+    c = add_role(1, 2);
+    c.i_seniors = 1 << 1;
+    b = gives("P, 2 is added again", b, c, 0);
+    expect("P again", memcmp(&b, &p, sizeof b) != 0, false);
+
+    gives("P, 0 adds edge 3 to 0", p, edge(3, 0, 3, 0, 1), 6);
+    gives("P, 0 adds edge 2 to 1", p, edge(3, 0, 2, 1, 1), 7);
+    gives("P, 0 adds edge 1 to 1", p, edge(3, 0, 1, 1, 1), 7);
+
+    gives("L, 0 adds edge 3 to 1", l, edge(3, 0, 3, 1, 1), 7);
+    about(&l);
+    derives(1, 3, false);
+
+    gives("W, 0 adds edge 2 to 3, A", w, edge(3, 0, 2, 3, 2), 9);
+    about(&w);
+    manager(3, 1);
+    b = gives("W, 0 adds edge 2 to 3, I", w, edge(3, 0, 2, 3, 1), 0);
+    about(&b);
+    manager(3, 0);
+    gives("W with 2 I 3, 0 changes it into A", b, edge(5, 0, 2, 3, 2), 9);
+
+    c = add_role(0, 63);
+    c.i_seniors = 1;
+    b = gives("role 63", founding, c, 0);
+    c.role = 64;
+    gives("role 64", founding, c, 2);
+    gives("kind 0", b, edge(5, 0, 0, 63, 0), 2);
+    gives("kind 4", b, edge(5, 0, 0, 63, 4), 2);
+    gives("edge to 64", b, edge(3, 0, 0, 64, 1), 2);
+    gives("edge to 63", b, edge(5, 0, 0, 63, 3), 0);
+
+    /* a slip the document warns of: the middle step hides that I comes before A */
+    b = board_of("0 I 1, 1 IA 2, 2 A 3");
+    sound_board("I, IA, A is sound", &b);
+    derives(0, 3, false);
+    derives(1, 3, true);
+
+    static const uint8_t listed[] = {0, 1, 2, 0, 1, 1, 1, 2, 2, 6, 0, 9, 0, 0x48, 0x48};
+    memcpy(file, listed, len = sizeof listed);
+    expect("the listed file", use->check(file, len), 0);
+    manager(0, NONE), manager(1, 0), manager(2, 1);
+    walk(0, 0), walk(1, 1), walk(2, 2);
+    expect("stretch of 1 in it", use->stretch(file, len, 1), 6ull << 16 | 3ull << 32);
+    expect("stretch of 2 in it", use->stretch(file, len, 2), 0);
+    return wrong;
+}

@@ -1,0 +1,76 @@
+/* The role board by its definitions: an independent model, made to be believed and not to be fast.
+ *
+ * A board is a plain table of kinds. Paths are explored step by step with the join table; scope, administrator
+ * and line manager are their quantifiers written as loops over roles. */
+#ifndef MODEL_H
+#define MODEL_H
+
+#include "calls.h"
+#include <stdbool.h>
+
+enum { ROLES = 64, EDGES = 2016, FILE_MOST = 6118, TRAILER = 6, NONE = 64 };
+enum { ADD_ROLE = 1, REMOVE_ROLE, ADD_EDGE, REMOVE_EDGE, CHANGE_EDGE };
+enum { ASKED, IN_FILE, IN_WRITING };
+
+/* kind[senior][junior] is 0 where no edge stands, else 1 = I, 2 = A, 3 = IA. */
+struct model {
+    bool live[ROLES];
+    uint8_t kind[ROLES][ROLES];
+};
+
+/* A board beside what its paths say. */
+struct view {
+    struct model board;
+    bool reaches[ROLES][ROLES], derives[ROLES][ROLES];
+};
+
+struct command {
+    uint8_t code, actor, role, junior, kind; /* role is also the senior */
+    uint64_t a_seniors, i_seniors, a_juniors, i_juniors;
+};
+
+/* model.c */
+bool in(uint64_t set, int role);
+void from_board(const struct board *b, struct model *m);
+void to_board(const struct model *m, struct board *b);
+void found(struct model *m);
+bool join_associates(void); /* paths are explored from the left; so it doesn't matter */
+void look(struct view *v); /* fills in what the paths of v->board say */
+bool in_scope(const struct view *v, int a, int r);
+bool administers(const struct view *v, int a, int r);
+int scope_count(const struct view *v, int a);
+int line_manager(const struct view *v, int r); /* or NONE */
+int steps(const struct view *v, int r);
+bool loops(const struct view *v);
+bool unmanaged(const struct view *v);
+bool sound(const struct view *v);
+/* The refusal number; `after` is the board afterwards where it is 0, and means nothing where it is not. */
+uint8_t decide(const struct view *before, const struct command *c, struct view *after);
+
+/* file.c */
+size_t distance(const uint8_t *at); /* 16 bits, low byte first */
+uint8_t read_file(const uint8_t *file, size_t len, struct view *v);
+uint8_t write_file(const struct view *v, uint8_t *buffer, size_t room, size_t at, size_t *len);
+size_t put_file(const struct model *m, uint8_t *file); /* sound or not; FILE_MAX bytes are enough */
+enum { FILE_MAX = ROLES + 3 * ROLES * ROLES + TRAILER };
+
+/* answers.c: what board.h promises, of a file that was read once; and model_apply and the rest, as in calls.h */
+struct opened {
+    const uint8_t *file;
+    size_t len;
+    uint8_t number;
+    struct view view;
+};
+void open_file(struct opened *o, const uint8_t *file, size_t len);
+uint32_t answer_check(const struct opened *o);
+uint32_t answer_derives(const struct opened *o, uint8_t x, uint8_t y);
+uint32_t answer_scope(const struct opened *o, uint8_t a, uint8_t r);
+uint32_t answer_manager(const struct opened *o, uint8_t r);
+uint32_t answer_steps(const struct opened *o, uint8_t r);
+uint64_t answer_stretch(const struct opened *o, uint8_t role);
+uint32_t answer_command(const struct opened *o, const struct command *c, uint8_t *out, size_t room);
+
+/* examples.c: the scope document's examples; prints and counts those that go wrong */
+int wrong_examples(const char *whose, const struct calls *of);
+
+#endif

@@ -1,0 +1,352 @@
+/* board.h's contract in plain C, quick and unproved: what the library is measured against.
+ *
+ * Sets of roles are words. A board is weighed as a whole before and after every change: `down` of a role is what it
+ * derives, `up` what derives it, and with these two the scope of a over r is two tests on words. */
+#include "calls.h"
+#include <stdbool.h>
+#include <string.h>
+
+enum { ADD_ROLE = 1, REMOVE_ROLE, ADD_EDGE, REMOVE_EDGE, CHANGE_EDGE };
+enum { ASKED, IN_FILE, IN_WRITING };
+
+typedef uint64_t set;
+
+struct weighed {
+    set down[64], up[64];
+};
+
+static inline set only(unsigned r) { return 1ull << r; }
+static inline bool has(set s, unsigned r) { return s >> r & 1; }
+static inline unsigned lowest(set s) { return __builtin_ctzll(s); }
+static inline unsigned size(set s) { return __builtin_popcountll(s); }
+
+/* r = each member of s in turn, lowest first */
+#define EACH(r, s) for (set r##_left = (s), r; r##_left != 0 && (r = lowest(r##_left), true); r##_left &= r##_left - 1)
+
+static bool joins_live(const struct board *b)
+{
+    for (unsigned x = 0; x < 64; x++)
+        if ((b->i[x] | b->a[x]) & (has(b->live, x) ? ~b->live : ~0ull)) return false;
+    return has(b->live, 0);
+}
+
+#ifndef PLAIN_BY_WALKS
+
+/* Depth first over all edges; a role is settled once its juniors are. A step to a role still on the path is a loop. */
+static bool descend(const struct board *b, set down[64])
+{
+    set i_down[64], on_path = 0, settled = 0;
+    unsigned path[64], depth = 0;
+    while (settled != b->live || depth > 0) {
+        if (depth == 0) {
+            path[depth++] = lowest(b->live & ~settled);
+            on_path = only(path[0]);
+        }
+        unsigned x = path[depth - 1];
+        set juniors = b->i[x] | b->a[x];
+        if (juniors & on_path) return false;
+        if (juniors & ~settled) {
+            path[depth++] = lowest(juniors & ~settled);
+            on_path |= only(path[depth - 1]);
+            continue;
+        }
+        set reached = only(x);
+        EACH(y, b->i[x]) reached |= i_down[y];
+        i_down[x] = reached;
+        EACH(y, b->a[x]) reached |= down[y];
+        down[x] = reached;
+        on_path &= ~only(x);
+        settled |= only(x);
+        depth--;
+    }
+    return true;
+}
+
+#else
+
+/* The same by a walk from each role: the library's way, to tell its algorithm's cost from its compiler's. */
+static set walk(const set rows[64], set from)
+{
+    set done = 0;
+    while (from != 0) {
+        unsigned x = lowest(from);
+        done |= only(x);
+        from = (from | rows[x]) & ~done;
+    }
+    return done;
+}
+
+static bool descend(const struct board *b, set down[64])
+{
+    set both[64];
+    for (unsigned x = 0; x < 64; x++) both[x] = b->i[x] | b->a[x];
+    EACH(x, b->live) if (has(walk(both, both[x]), x)) return false;
+    EACH(x, b->live) down[x] = walk(b->i, walk(b->a, only(x)));
+    return true;
+}
+
+#endif
+
+static inline bool in_scope(const struct weighed *w, unsigned a, unsigned r)
+{
+    return has(w->down[a], r) && (w->up[r] & ~(w->up[a] | w->down[a])) == 0;
+}
+
+static inline bool in_strict_scope(const struct weighed *w, unsigned a, unsigned r)
+{
+    return a != r && in_scope(w, a, r);
+}
+
+static bool managed(const struct weighed *w, unsigned r)
+{
+    EACH(a, w->up[r] & ~only(r)) if (in_scope(w, a, r)) return true;
+    return false;
+}
+
+/* Works out who derives whom. False, with nothing worked out, where there is a loop. */
+static bool loopless(const struct board *b, struct weighed *w)
+{
+    if (!descend(b, w->down)) return false;
+    EACH(x, b->live) w->up[x] = 0;
+    EACH(x, b->live) EACH(y, w->down[x]) w->up[y] |= only(x);
+    return true;
+}
+
+static bool all_managed(const struct board *b, const struct weighed *w)
+{
+    EACH(r, b->live & ~1ull) if (!managed(w, r)) return false;
+    return true;
+}
+
+static bool sound(const struct board *b, struct weighed *w)
+{
+    return joins_live(b) && loopless(b, w) && all_managed(b, w);
+}
+
+/* ---- commands */
+
+struct command {
+    uint8_t code, actor, role, junior, kind;
+    set a_seniors, i_seniors, a_juniors, i_juniors;
+};
+
+static bool allowed(const struct weighed *w, const struct command *c)
+{
+    switch (c->code) {
+    case ADD_ROLE:
+        EACH(x, c->a_seniors | c->i_seniors) if (!in_scope(w, c->actor, x)) return false;
+        EACH(x, c->a_juniors | c->i_juniors) if (!in_strict_scope(w, c->actor, x)) return false;
+        return true;
+    case REMOVE_ROLE: return in_strict_scope(w, c->actor, c->role);
+    default: return in_scope(w, c->actor, c->role) && in_scope(w, c->actor, c->junior);
+    }
+}
+
+static void put_kind(struct board *b, unsigned senior, unsigned junior, unsigned kind)
+{
+    b->i[senior] = (b->i[senior] & ~only(junior)) | (set)(kind & 1) << junior;
+    b->a[senior] = (b->a[senior] & ~only(junior)) | (set)(kind >> 1) << junior;
+}
+
+static void change(struct board *b, const struct command *c)
+{
+    unsigned r = c->role;
+    switch (c->code) {
+    case ADD_ROLE:
+        b->live |= only(r);
+        b->i[r] = c->i_juniors;
+        b->a[r] = c->a_juniors;
+        EACH(x, c->i_seniors) b->i[x] |= only(r);
+        EACH(x, c->a_seniors) b->a[x] |= only(r);
+        break;
+    case REMOVE_ROLE:
+        b->live &= ~only(r);
+        b->i[r] = b->a[r] = 0;
+        EACH(x, b->live) {
+            b->i[x] &= ~only(r);
+            b->a[x] &= ~only(r);
+        }
+        break;
+    case REMOVE_EDGE: put_kind(b, r, c->junior, 0); break;
+    default: put_kind(b, r, c->junior, c->kind);
+    }
+}
+
+/* `w` belongs to b, which is sound. Where the number is 0 the board is changed; else it may be and must be dropped. */
+static uint8_t decide(struct board *b, struct weighed *w, const struct command *c)
+{
+    bool on_edge = c->code >= ADD_EDGE, has_kind = on_edge && c->code != REMOVE_EDGE;
+    set named = only(c->actor & 63);
+
+    if (c->code < ADD_ROLE || c->code > CHANGE_EDGE || c->actor > 63 || c->role > 63) return 2;
+    if ((on_edge && c->junior > 63) || (has_kind && (c->kind < 1 || c->kind > 3))) return 2;
+
+    if (c->code == ADD_ROLE) named |= c->a_seniors | c->i_seniors | c->a_juniors | c->i_juniors;
+    else named |= only(c->role);
+    if (on_edge) named |= only(c->junior);
+    if (named & ~b->live) return 3;
+
+    bool stands = on_edge ? has(b->i[c->role] | b->a[c->role], c->junior) : has(b->live, c->role);
+    if ((c->code == ADD_ROLE || c->code == ADD_EDGE) && stands) return 4;
+    if ((c->code == REMOVE_EDGE || c->code == CHANGE_EDGE) && !stands) return 5;
+    if (!allowed(w, c)) return 6;
+
+    change(b, c);
+    if (!loopless(b, w)) return 7;
+    if (c->code == ADD_ROLE && !in_strict_scope(w, c->actor, c->role)) return 8;
+    return all_managed(b, w) ? 0 : 9;
+}
+
+uint8_t plain_apply(struct board *b, NINE_NUMBERS)
+{
+    struct command c = {code, actor, role, junior, kind, a_seniors, i_seniors, a_juniors, i_juniors};
+    struct weighed w;
+    struct board next;
+    if (!sound(b, &w)) return 1;
+    next = *b;
+    uint8_t number = decide(&next, &w, &c);
+    if (number == 0) *b = next;
+    return number;
+}
+
+/* ---- the board file */
+
+enum { TRAILER = 6, FILE_MOST = 6118 };
+
+static uint8_t read_file(const uint8_t *file, size_t len, struct board *b, struct weighed *w)
+{
+    if (len < TRAILER || len > FILE_MOST) return 10;
+    const uint8_t *t = file + len - TRAILER;
+    size_t edges = t[0] | t[1] << 8, all = t[2] | t[3] << 8;
+    if (t[4] != 'H' || t[5] != 'H' || all != len - TRAILER || edges > all || edges % 3 != 0) return 10;
+    size_t roles = all - edges;
+    if (roles < 1 || roles > 64) return 10;
+
+    memset(b, 0, sizeof *b);
+    if (file[0] != 0) return 11;
+    int last = -1;
+    for (size_t k = 0; k < roles; last = file[k++]) {
+        if (file[k] > 63 || file[k] <= last) return 11;
+        b->live |= only(file[k]);
+    }
+    last = -1;
+    for (const uint8_t *e = file + roles; e < t; e += 3) {
+        if (e[0] > 63 || e[1] > 63 || !has(b->live, e[0]) || !has(b->live, e[1])) return 11;
+        if (e[0] == e[1] || e[2] < 1 || e[2] > 3 || e[0] * 64 + e[1] <= last) return 11;
+        last = e[0] * 64 + e[1];
+        b->i[e[0]] |= (set)(e[2] & 1) << e[1];
+        b->a[e[0]] |= (set)(e[2] >> 1) << e[1];
+    }
+    if (!loopless(b, w)) return 7;
+    return all_managed(b, w) ? 0 : 9;
+}
+
+/* The length, or 0 and nothing written where there is no room. */
+static size_t write_file(const struct board *b, uint8_t *out, size_t room)
+{
+    size_t roles = size(b->live), edges = 0;
+    EACH(x, b->live) edges += 3 * size(b->i[x] | b->a[x]);
+    if (room < roles + edges + TRAILER) return 0;
+    EACH(x, b->live) *out++ = x;
+    EACH(x, b->live) EACH(y, b->i[x] | b->a[x]) {
+        *out++ = x;
+        *out++ = y;
+        *out++ = has(b->i[x], y) | has(b->a[x], y) << 1;
+    }
+    *out++ = edges & 255;
+    *out++ = edges >> 8;
+    *out++ = (roles + edges) & 255;
+    *out++ = (roles + edges) >> 8;
+    *out++ = 'H';
+    *out++ = 'H';
+    return roles + edges + TRAILER;
+}
+
+/* ---- answers */
+
+static uint32_t answer(uint8_t number, unsigned place, uint32_t value) { return number | place << 8 | value << 16; }
+
+/* A board read from a file and asked about x and y: 0, or the whole refusal with no value. */
+static uint32_t ask(const uint8_t *file, size_t len, struct board *b, struct weighed *w, uint8_t x, uint8_t y)
+{
+    uint8_t number = read_file(file, len, b, w);
+    if (number != 0) return answer(number, IN_FILE, 0);
+    if (x > 63 || y > 63) return answer(2, ASKED, 0);
+    return has(b->live, x) && has(b->live, y) ? 0 : answer(3, ASKED, 0);
+}
+
+static unsigned manager(const struct weighed *w, unsigned r)
+{
+    set administrators = 0;
+    EACH(a, w->up[r] & ~only(r)) if (in_scope(w, a, r)) administrators |= only(a);
+    EACH(m, administrators) if ((administrators & ~w->up[m]) == 0) return m;
+    return BOARD_NO_MANAGER;
+}
+
+uint32_t plain_check(const uint8_t *file, size_t len)
+{
+    struct board b;
+    struct weighed w;
+    return ask(file, len, &b, &w, 0, 0);
+}
+
+uint32_t plain_derives(const uint8_t *file, size_t len, uint8_t x, uint8_t y)
+{
+    struct board b;
+    struct weighed w;
+    uint32_t refusal = ask(file, len, &b, &w, x, y);
+    return refusal != 0 ? refusal : answer(0, ASKED, has(w.down[x], y));
+}
+
+uint32_t plain_scope(const uint8_t *file, size_t len, uint8_t a, uint8_t r)
+{
+    struct board b;
+    struct weighed w;
+    uint32_t refusal = ask(file, len, &b, &w, a, r), count = 0;
+    if (refusal != 0) return refusal;
+    EACH(x, w.down[a]) count += in_scope(&w, a, x);
+    return answer(0, ASKED, in_scope(&w, a, r) | count << 1);
+}
+
+uint32_t plain_manager(const uint8_t *file, size_t len, uint8_t r)
+{
+    struct board b;
+    struct weighed w;
+    uint32_t refusal = ask(file, len, &b, &w, r, r);
+    return refusal != 0 ? refusal | BOARD_NO_MANAGER << 16 : answer(0, ASKED, manager(&w, r));
+}
+
+uint32_t plain_steps(const uint8_t *file, size_t len, uint8_t r)
+{
+    struct board b;
+    struct weighed w;
+    uint32_t refusal = ask(file, len, &b, &w, r, r), n = 0;
+    if (refusal != 0) return refusal;
+    for (unsigned x = r; x != 0; x = manager(&w, x)) n++;
+    return answer(0, ASKED, n);
+}
+
+uint64_t plain_stretch(const uint8_t *file, size_t len, uint8_t role)
+{
+    struct board b;
+    struct weighed w;
+    uint32_t refusal = ask(file, len, &b, &w, role, role);
+    if (refusal != 0) return refusal;
+    uint64_t start = size(b.live), count = size(b.i[role] | b.a[role]);
+    if (count == 0) return 0;
+    EACH(x, b.live & (only(role) - 1)) start += 3 * size(b.i[x] | b.a[x]);
+    return start << 16 | 3 * count << 32;
+}
+
+uint32_t plain_command(const uint8_t *file, size_t len, NINE_NUMBERS, uint8_t *out, size_t room)
+{
+    struct command c = {code, actor, role, junior, kind, a_seniors, i_seniors, a_juniors, i_juniors};
+    struct board b;
+    struct weighed w;
+    uint8_t number = read_file(file, len, &b, &w);
+    if (number != 0) return answer(number, IN_FILE, 0);
+    number = decide(&b, &w, &c);
+    if (number != 0) return answer(number, ASKED, 0);
+    uint32_t written = write_file(&b, out, room);
+    return written != 0 ? answer(0, ASKED, written) : answer(12, IN_WRITING, 0);
+}

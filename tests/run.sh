@@ -1,0 +1,191 @@
+#!/bin/sh
+# The tests from outside. See README.md.
+#
+#   tests/run.sh sample | full       the model against the library
+#   tests/run.sh replay FILE         the case lines that a disagreement printed ("-": standard input)
+#   tests/run.sh mutations           the broken models of mutations.txt: the comparison must notice each
+#   tests/run.sh bench | stack       what a call costs, in time and in stack
+#   tests/run.sh boards              makes the files of boards/ anew by the library's writer
+#   tests/run.sh tools               only see to the compiler and the emulator
+#
+# LIBHOST=FILE   the library (default target/staticlib/libhost.a)
+# SUBJECT=plain  the plain C in the library's place, compiled for this machine
+# SUBJECT=cross  the same, compiled and run as the library is
+# SEED=N         of the comparison (default 1)
+# PLAIN=walks    in bench: the plain C by the library's algorithm
+# BUILD=DIR      for what is built (default target/tests)
+set -eu
+
+here=$(cd "$(dirname "$0")" && pwd -P)
+root=$(dirname "$here")
+build=${BUILD:-$root/target/tests}
+library=${LIBHOST:-$root/target/staticlib/libhost.a}
+subject=${SUBJECT:-library}
+seed=${SEED:-1}
+machine=$(uname -m)
+
+say() { printf 'tests: %s\n' "$*"; }
+die() { printf 'tests: %s\n' "$*" >&2; exit 2; }
+
+# ---- the compiler, and what runs x86-64 programs where the machine doesn't
+
+packages() { DEBIAN_FRONTEND=noninteractive apt-get install -y --no-install-recommends "$@"; }
+
+need() { # COMMAND PACKAGE...
+    command -v "$1" >/dev/null && return
+    wanted=$1
+    shift
+    say "$wanted is missing: installing $*"
+    command -v apt-get >/dev/null || die "there is no apt-get to install $* with"
+    { packages "$@" || { apt-get update && packages "$@"; }; } >"$build/apt.log" 2>&1 ||
+        die "apt-get can't install $* ($build/apt.log says why)"
+}
+
+find_emulator() {
+    rt=$(command -v rt) || die "rt is not on the path, so the kit's emulator can't be found"
+    kit=${RATTLE_HOME:-$(dirname "$(dirname "$(readlink -f "$rt")")")}
+    emulator=$kit/on/$machine/toolchain/bin/qemu-x86_64
+    [ -x "$emulator" ] || die "the kit has no emulator at $emulator"
+    for word in $(env | sed -n 's/^\(QEMU_[A-Za-z0-9_]*\)=.*/\1/p'); do unset "$word"; done
+}
+
+tools() {
+    mkdir -p "$build"
+    emulator='' static='' cc=gcc where=$machine
+    if [ "$machine" = x86_64 ] || [ "$subject" = plain ]; then
+        need gcc gcc libc6-dev
+    else
+        cc=x86_64-linux-gnu-gcc static=-static where="x86-64 emulated on $machine"
+        need "$cc" gcc-x86-64-linux-gnu libc6-dev-amd64-cross
+        find_emulator
+    fi
+}
+
+# ---- building
+
+# The header of the library once it has one; the same header stands here for the tests alone.
+if [ -f "$root/host/board.h" ]; then header=$root/host; else header=$here; fi
+
+case $subject in
+library) library_words=$library subject_words='' plain='' ;;
+plain | cross) library_words='' subject_words=-DSUBJECT_PLAIN plain=$here/plain/plain.c ;;
+*) die "SUBJECT is library, plain or cross" ;;
+esac
+
+compile() { # WORDS...
+    "$cc" -std=gnu11 -O2 -Wall -Wextra $subject_words -I "$header" -I "$here" "$@"
+}
+
+program() { # OUT WORDS...
+    [ "$subject" != library ] || [ -f "$library" ] ||
+        die "there is no library at $library: make it with 'rt staticlib host', or name it with LIBHOST"
+    out=$1
+    shift
+    compile $static -o "$out" "$@" ${library_words:+"$library_words"}
+}
+
+build_compare() { # OUT MODEL_FOLDER: all but the model is compiled once
+    [ -n "${rest:-}" ] || {
+        rest=$build/rest.o
+        compile -r -nostdlib -o "$rest" "$here"/compare/*.c ${plain:+"$plain"}
+    }
+    program "$1" "$2"/*.c "$rest"
+}
+
+run() { ${emulator:+"$emulator"} "$@"; }
+
+# ---- mutations
+
+# Copies the model and changes the one line that is `old`, apart from its indent, into `new`.
+mutate() { # FILE OLD NEW FOLDER
+    rm -rf "$4"
+    mkdir -p "$4"
+    cp "$here"/model/* "$4"
+    OLD=$2 NEW=$3 awk '
+        { text = $0; sub(/^ +/, "", text) }
+        text == ENVIRON["OLD"] { print ENVIRON["NEW"]; found++; next }
+        { print }
+        END { exit found == 1 ? 0 : 1 }' "$here/model/$1" >"$4/$1"
+}
+
+try_mutation() { # NUMBER WHAT FILE OLD NEW
+    folder=$build/mutation/model
+    mutate "$3" "$4" "$5" "$folder" || die "mutation $1 ($2): its line is not in $3 just once: $4"
+    build_compare "$build/mutation/compare" "$folder"
+    examples='examples fail'
+    if run "$build/mutation/compare" --examples >/dev/null 2>&1; then examples='examples pass'; fi
+    status=0
+    run "$build/mutation/compare" --sample --no-examples --seed "$seed" >"$build/mutation/said" 2>&1 || status=$?
+    if [ "$status" -eq 1 ] && grep -q '^DISAGREEMENT' "$build/mutation/said"; then
+        noticed="noticed at $(sed -n 's/^DISAGREEMENT at \(call [0-9]* ([a-z]*)\): .*/\1/p' "$build/mutation/said")"
+        caught=$((caught + 1))
+    else
+        noticed='NOT NOTICED'
+    fi
+    printf '%2d  %-66s %-30s %s\n' "$1" "$2" "$noticed" "$examples"
+}
+
+mutations() {
+    count=0 caught=0 what='' file='' old=''
+    while IFS= read -r line; do
+        case $line in
+        'what: '*) what=${line#what: } ;;
+        'file: '*) file=${line#file: } ;;
+        'old: '*) old=${line#old: } ;;
+        'new: '*)
+            count=$((count + 1))
+            try_mutation "$count" "$what" "$file" "$old" "${line#new: }"
+            ;;
+        esac
+    done <"$here/mutations.txt"
+    say "$caught of $count mutations noticed"
+    [ "$count" -gt 0 ] && [ "$caught" -eq "$count" ]
+}
+
+# ---- what to do
+
+case ${1:-} in
+sample | full)
+    tools
+    say "$1 comparison, $subject, $where"
+    build_compare "$build/compare" "$here/model"
+    run "$build/compare" "--$1" --seed "$seed"
+    ;;
+replay)
+    [ $# -eq 2 ] || die "usage: tests/run.sh replay FILE"
+    tools
+    build_compare "$build/compare" "$here/model"
+    run "$build/compare" --replay "$2"
+    ;;
+mutations)
+    tools
+    mkdir -p "$build/mutation"
+    mutations
+    ;;
+bench)
+    tools
+    walks=''
+    [ "${PLAIN:-}" != walks ] || walks=-DPLAIN_BY_WALKS
+    program "$build/bench" -O3 $walks "$here/bench/bench.c" "$here/bench/boards.c" "$here/plain/plain.c"
+    run "$build/bench" "$where${walks:+, plain C by walks}"
+    ;;
+stack)
+    tools
+    program "$build/stack" -O3 "$here/bench/stack.c" "$here/bench/boards.c" "$here/plain/plain.c"
+    run "$build/stack" "$where"
+    ;;
+boards)
+    tools
+    program "$build/boards" "$root/boards/make.c"
+    cd "$root/boards"
+    run "$build/boards"
+    ;;
+tools)
+    tools
+    say "$cc for $where"
+    ;;
+*)
+    sed -n '2,/^set/s/^# \{0,1\}//p' "$0"
+    exit 2
+    ;;
+esac
