@@ -5,17 +5,12 @@ use Prim.Native.Nat.{ℕ, _^_, _≤_, _<_}
 use native.Mathlib.Decide.{ℕ-discrete}
 use native.Mathlib.Omega.{arith}
 use lib.Count.{ones-le}
-use lib.ListN.{length}
-use Rattle.sets.specs.Sets.{bit}
 use Rattle.sets.proofs.Laws.{ones-mono}
 use Rattle.hierarchy.specs.Words.{Sound}
 use Rattle.hierarchy.proofs.Theorems.{climb-short}
 use Rattle.board.specs.Boards.{tablesOf}
 use Rattle.board.specs.Questions.{ScopeAnswer, StepsAnswer}
 use Rattle.board.specs.declared.Board.{Board}
-use Rattle.boardfile.specs.Files.{from, edgeBytes, kindAt, bytesOf, fileOf}
-use Rattle.boardfile.proofs.Ascending.{from-short}
-use Rattle.boardfile.proofs.Bytes.{edge-few, whole-length}
 
 -- a scope has at most 64 roles: they are live
 pub count-small : (b : Board) (a r n : ℕ) (p : Bool) (count : ℕ) → b .live < 2 ^ 64 → ScopeAnswer b a r n p count → count ≤ 64
@@ -30,11 +25,3 @@ pub steps-small : (b : Board) (r n steps : ℕ) → Sound (tablesOf b) → Steps
 steps-small b r n steps sound s = dite (ℕ-discrete n 0)
     (λ z. omega (arith, climb-short sound (s .done z), ones-le 64 (b .live) (sound .shaped .live-fits)))
     (λ z. omega (arith, s .refused z))
-
--- a file's length takes less than 16 bits
-pub file-small : (b : Board) → length (fileOf b) < 2 ^ 16
-unfolding fileOf bytesOf
-file-small b =
-    let rs = from 64 0 (bit (b .live)) in
-    let es = edgeBytes (kindAt (tablesOf b)) 4096 0 in
-    omega (arith, whole-length rs es, from-short 64 0 (bit (b .live)), edge-few 4096 0 (kindAt (tablesOf b)))

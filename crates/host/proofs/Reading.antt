@@ -22,15 +22,16 @@ module _ {n : ℕ} where
   pub write-is : {b : Board} {entry exit : List ℕ} {at m len : ℕ} → WriteAnswer b entry at exit n len → n ≡ m → WriteAnswer b entry at exit m len
   write-is {b} {entry} {exit} {at} {len = len} a e = subst (λ (k : ℕ). WriteAnswer b entry at exit k len) e a
 
-  -- a done command leaves a sound board, so writing it is refused for want of room alone
-  pub write-refused : {b next : Board} {c : Command} {entry exit : List ℕ} {at len : ℕ} → Decided b c 0 next → WriteAnswer next entry at exit n len → n ≢ 0 → n ≡ 12
-  unfolding First
-  write-refused {b} {next} {c} {entry} {at = at} d w z = go (w .numbered)
-    where
-      sound : Sound (tablesOf next)
-      sound = subst (λ (x : Board). Sound (tablesOf x)) (sym (d .done refl)) (sound-after b c (d .numbered))
+-- a done command leaves a sound board,
+pub sound-next : {b next : Board} {c : Command} → Decided b c 0 next → Sound (tablesOf next)
+sound-next {b} {next} {c} d = subst (λ (x : Board). Sound (tablesOf x)) (sym (d .done refl)) (sound-after b c (d .numbered))
 
-      go : First (writeRefusals next entry at) n → n ≡ 12
-      go (inl p) = absurd (p .0 sound)
-      go (inr (_, inl p)) = p .1
-      go (inr (_, inr p)) = absurd (z (p .1))
+-- so writing it is refused for want of room alone
+pub write-refused : {b next : Board} {c : Command} {entry exit : List ℕ} {at n len : ℕ} → Decided b c 0 next → WriteAnswer next entry at exit n len → n ≢ 0 → n ≡ 12
+unfolding First
+write-refused {next = next} {entry = entry} {at = at} {n = n} d w z = go (w .numbered)
+  where
+    go : First (writeRefusals next entry at) n → n ≡ 12
+    go (inl p) = absurd (p .0 (sound-next d))
+    go (inr (_, inl p)) = p .1
+    go (inr (_, inr p)) = absurd (z (p .1))

@@ -13,23 +13,9 @@ use Rattle.board.specs.declared.Board.{Board}
 use Rattle.board.specs.declared.Command.{Command}
 use Rattle.board.proofs.Settled.{decided-unique, derives-unique, scope-unique, manager-answer-unique, steps-unique}
 use Rattle.boardfile.specs.Answers.{ReadAnswer, WriteAnswer}
-use Rattle.boardfile.proofs.OneFile.{one-board}
+use Rattle.boardfile.proofs.Settled.{read-unique, write-unique}
 use Rattle.host.specs.Answers.{answer, Asked, Asked.unread, Asked.asked, Nothing, DerivesValue, ScopeValue, managerOr64, ManagerValue, StepsValue, PlaceAnswer, PlaceValue}
 use Rattle.host.specs.Answers.{Commanded, Commanded.unread, Commanded.refused, Commanded.no-room, Commanded.done}
-
-read-unique : {f : List ℕ} {m n : ℕ} {b d : Board} → ReadAnswer f m b → ReadAnswer f n d → (m ≡ n) × (b ≡ d)
-read-unique {m = m} {n = n} p q =
-    let e = first-unique _ m n (p .numbered) (q .numbered) in
-    (e, dite (ℕ-discrete m 0) (λ z. one-board (p .done z .0) (q .done (sym e ∙ z) .0)) (λ z. p .refused z ∙ sym (q .refused (λ w. z (e ∙ w)))))
-
-write-unique : {b : Board} {entry exit other : List ℕ} {at m n k l : ℕ} → WriteAnswer b entry at exit m k → WriteAnswer b entry at other n l → (m ≡ n) × (k ≡ l) × (exit ≡ other)
-write-unique {m = m} {n = n} p q =
-    let e = first-unique _ m n (p .numbered) (q .numbered) in
-    let far : m ≢ 0 → n ≢ 0 = λ z w. z (e ∙ w) in (
-      e,
-      dite (ℕ-discrete m 0) (λ z. p .done z .0 ∙ sym (q .done (sym e ∙ z) .0)) (λ z. p .refused z .0 ∙ sym (q .refused (far z) .0)),
-      dite (ℕ-discrete m 0) (λ z. p .done z .1 ∙ sym (q .done (sym e ∙ z) .1)) (λ z. p .refused z .1 ∙ sym (q .refused (far z) .1)),
-    )
 
 -- ---- questions
 

@@ -6,7 +6,7 @@ use mathlib.Core.List.{List, [], _∷_}
 use Prim.Native.Nat.{ℕ, _+_, _*_, _<_}
 use lib.Dec.{eqb}
 use lib.ListN.{length}
-use Rattle.sets.specs.Sets.{bit, num}
+use Rattle.sets.specs.Sets.{num}
 use Rattle.hierarchy.specs.Tables.{Live}
 use Rattle.hierarchy.specs.First.{First}
 use Rattle.board.specs.Boards.{tablesOf}
@@ -16,7 +16,7 @@ use Rattle.board.specs.declared.Board.{Board}
 use Rattle.board.specs.declared.Command.{Command}
 use Rattle.board.specs.declared.questions.Manager.{Manager}
 use Rattle.board.specs.declared.questions.Manager.the-variants.{Role, Nobody}
-use Rattle.boardfile.specs.Files.{from, edgeBytes, kindAt, stretchOf}
+use Rattle.boardfile.specs.Files.{stretchOf, startOf}
 use Rattle.boardfile.specs.Answers.{ReadAnswer, WriteAnswer}
 
 -- The number in bits 0 to 7, the place in bits 8 to 15, the value from bit 16 on. The places: 0 is the command or the question, and
@@ -32,7 +32,7 @@ pub data Asked (f : List ℕ) (Answer : Board → ℕ → ℕ → Type 0) (none 
   unread : {number : ℕ} {b : Board} → ReadAnswer f number b → number ≢ 0 → r ≡ answer number 1 none → Asked f Answer none r
   asked : {number value : ℕ} {b : Board} → ReadAnswer f 0 b → Answer b number value → r ≡ answer number 0 value → Asked f Answer none r
 
--- is the file one: nothing more is asked
+-- whether the file can be read, and nothing more
 abbrev pub Nothing : Board → ℕ → ℕ → Type 0
 Nothing b number value = (number ≡ 0) × (value ≡ 0)
 
@@ -58,11 +58,9 @@ StepsValue r b number value = StepsAnswer b r number value
 
 -- ---- where the edge records of one senior stand in the file
 
--- They begin past the role bytes and the records of the seniors below. Where there are none there is no place to name, and it is 0.
+-- A senior without an edge has no place to name, and its start is 0.
 unfoldable pub startOrNone : Board → ℕ → ℕ
-startOrNone b role =
-    cond (eqb (length (stretchOf b role)) 0) 0
-    (length (from 64 0 (bit (b .live))) + length (edgeBytes (kindAt (tablesOf b)) (role * 64) 0))
+startOrNone b role = cond (eqb (length (stretchOf b role)) 0) 0 (startOf b role)
 
 pub record PlaceAnswer (b : Board) (role number start len : ℕ) : Type 0 where
   pub numbered : First ((2, 63 < role) ∷ (3, (Live (tablesOf b) role → ⊥)) ∷ []) number

@@ -1,9 +1,7 @@
-// Where the edge records of one senior stand in the file of a board.
+// Where the edge records of one senior stand in the file of a board: worked out from the board, so that the file is read once.
 ghost use mathlib.Core.Path.{_≡_};
-ghost use Prim.Native.Nat.{_*_, _≤_};
-ghost use lib.ListN.{length};
-ghost use Rattle.board.specs.Boards.{tablesOf};
-ghost use Rattle.boardfile.specs.Files.{from, edge?, kindAt};
+ghost use Prim.Native.Nat.{_≤_};
+ghost use Rattle.boardfile.specs.Files.{startOf};
 ghost use Rattle.host.specs.Answers.{PlaceAnswer};
 use board::Board;
 use sets::has;
@@ -16,10 +14,10 @@ pub(crate) struct Part {
     pub len: usize,
 }
 
-// How many edges have a senior below this one.
-fn edges_below(b: Board, senior: usize) -> usize
+// Where the records of this senior and of those above it begin: past the role bytes and the records of the seniors below.
+fn start_of(b: Board, senior: usize) -> usize
     requires { ⌜ senior ≤ 64 ⌝ }
-    ensures { λ r. ⌜ r ≡ length (from (senior * 64) 0 (edge? (kindAt (tablesOf b)))) ⌝ }
+    ensures { λ r. ⌜ r ≡ startOf b senior ⌝ }
 {
     let i = b.i;
     let a = b.a;
@@ -29,10 +27,10 @@ fn edges_below(b: Board, senior: usize) -> usize
         n += size(union(i[x], a[x])) as usize;
         x += 1;
     }
-    n
+    size(b.live) as usize + 3 * n
 }
 
-// Their place, past the role bytes and the records of the seniors below.
+// The place of the records of this senior.
 pub(crate) fn place(b: Board, role: u8) -> Part
     ensures { λ r. ⌜ PlaceAnswer b role (r .number) (r .start) (r .len) ⌝ }
 {
@@ -51,9 +49,9 @@ pub(crate) fn place(b: Board, role: u8) -> Part
             len: 0,
         };
     }
-    let below = edges_below(b, senior);
-    let own = edges_below(b, senior + 1) - below;
-    if own == 0 {
+    let start = start_of(b, senior);
+    let len = start_of(b, senior + 1) - start;
+    if len == 0 {
         return Part {
             number: 0,
             start: 0,
@@ -62,7 +60,7 @@ pub(crate) fn place(b: Board, role: u8) -> Part
     }
     Part {
         number: 0,
-        start: size(b.live) as usize + 3 * below,
-        len: 3 * own,
+        start,
+        len,
     }
 }

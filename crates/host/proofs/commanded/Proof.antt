@@ -1,9 +1,9 @@
 use mathlib.Core.Path.{refl, ap, _∙_}
 use Prim.Native.Nat.{ℕ}
 use native.Mathlib.Omega.{arith}
+use Rattle.boardfile.proofs.Theorems.{sound-length}
 use Rattle.host.specs.Answers.{answer, Commanded.unread, Commanded.refused, Commanded.no-room, Commanded.done}
-use Rattle.host.proofs.Reading.{read-done, step-done, write-is, write-refused}
-use Rattle.host.proofs.Bounds.{file-small}
+use Rattle.host.proofs.Reading.{read-done, step-done, write-is, sound-next, write-refused}
 use borrow.Author.Needs.{needs}
 use Rattle.host.proofs.commanded.Statement.{statement}
 use Rattle.host.proofs.commanded.Tie as tie
@@ -38,8 +38,10 @@ returns-3 c =
 cast-packed : tie.Need-cast-packed
 cast-packed c =
     let w = c .before .before .before .before .before in
-    let o = w .before .before .before .before .before in
-    record { fits = omega (arith, w .write .ensures .done (c .before .if3 .left) .0, file-small (o .step .result .board)) }
+    let d = w .before .before .before in
+    let o = d .before .before in
+    let short = sound-length (o .step .result .board) (sound-next (step-done (o .step .ensures) (d .if2 .left))) in
+    record { fits = omega (arith, w .write .ensures .done (c .before .if3 .left) .0) }
 
 same-length-2 : tie.Need-same-length-2
 same-length-2 c = search needs
