@@ -1,6 +1,6 @@
 -- The laws of sets of roles: what callers cite. Assumes nothing.
 use mathlib.Core.Path.{_≡_, refl, sym, ap, _∙_, subst}
-use mathlib.Core.Bool.{Bool, true, false, not, _&&_, _||_, and-true, and-false}
+use mathlib.Core.Bool.{Bool, true, false, not, _&&_, and-true, and-false}
 use mathlib.Core.Logic.{_⊎_, ⊎-elim, _↔_}
 use Prim.Native.Nat.{ℕ, zero, suc, _-_, _*_, _/_, _%_, _^_, _≤_, _<_, zero-le, suc-le-suc}
 use native.Mathlib.Nat.{mod-lt, mod-eq-of-lt, one-mul, le-refl, le-antisymm, le-of-suc-le-suc, pow-suc, mul-comm, div-lt-iff-lt-mul, le-div-iff-mul-le}
@@ -8,14 +8,14 @@ use native.Mathlib.Omega.{arith}
 use lib.Dec.{eqb, ltb, lit<}
 use lib.Arith.{bin-ind}
 use lib.Pow.{pow-lt, pow-pos}
-use lib.Bits.{and-mask, bitAnd, bitOr, or-lt}
+use lib.Bits.{and-mask, bitAnd}
 use lib.Count.{ones, ones-step, trailingZeros, under, leadingZeros, leading-top}
 use borrow.Author.Tests.{lt-ltb, le-ltb, eqb-true, eq-eqb}
-use Rattle.sets.specs.Sets.{bit, _∈_, _⊆_, part?, same?, num, setOf, Lowest, HighestRole, Highest}
+use Rattle.sets.specs.Sets.{bit, _∈_, _⊆_, same?, num, setOf, Lowest, HighestRole, Highest}
 use Rattle.sets.specs.declared.Pick.{Pick}
 use Rattle.sets.specs.declared.Pick.the-variants.{Role, Nobody}
-use Rattle.sets.proofs.Bools.{true-or-false, or-left, and-left, and-both, lt-or-ge, false-no, not-so, iff-same}
-use Rattle.sets.proofs.Digits.{two-pos, bit-low, bit-high, bit-zero, bit-out, bit-or, bit-and, bit-not, bit-pow, low-num, half-lt, digits-fit, bit-digits}
+use Rattle.sets.proofs.Bools.{true-or-false, and-left, and-both, lt-or-ge, false-no, not-so, iff-same}
+use Rattle.sets.proofs.Digits.{two-pos, bit-low, bit-high, bit-zero, bit-out, bit-and, bit-not, bit-pow, low-num, half-lt, digits-fit, bit-digits}
 
 -- ---- members are roles; sets with the same members are equal
 
@@ -84,17 +84,6 @@ minus-part s t d h e = (
       (λ n. ap (λ (p : Bool). p && not (bit t x)) n)
       (true-or-false (bit s x)))),
 )
-
-pub part-is : (s t : ℕ) → s < 2 ^ 64 → t < 2 ^ 64 → (part? s t ≡ true) ↔ (s ⊆ t)
-unfolding part?
-part-is s t hs ht = (
-  λ e x m. ap (λ (n : ℕ). bit n x) (sym (eqb-true (bitOr s t) t e)) ∙ bit-or s t x ∙ or-left (bit s x) (bit t x) m,
-  λ f. eq-eqb (bitOr s t) t (ext 64 (bitOr s t) t (or-lt 64 s t hs ht) ht (λ x l. bit-or s t x ∙ absorb (bit s x) (bit t x) (f x))),
-)
-  where
-    absorb : (p q : Bool) → (p ≡ true → q ≡ true) → (p || q) ≡ q
-    absorb true q h = sym (h refl)
-    absorb false q h = refl
 
 -- ---- the lowest role
 

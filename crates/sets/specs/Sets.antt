@@ -3,7 +3,6 @@ use mathlib.Core.Path.{_≡_}
 use mathlib.Core.Bool.{Bool, true, false, _&&_}
 use Prim.Native.Nat.{ℕ, zero, suc, _+_, _*_, _/_, _%_, _^_, _≤_, _<_}
 use lib.Dec.{eqb, ltb}
-use lib.Bits.{bitOr}
 use Rattle.sets.specs.declared.Pick.{Pick}
 use Rattle.sets.specs.declared.Pick.the-variants.{Role, Nobody}
 
@@ -19,10 +18,6 @@ r ∈ s = bit s r ≡ true
 infix 4 _⊆_
 abbrev pub _⊆_ : ℕ → ℕ → Type 0
 s ⊆ t = (x : ℕ) → x ∈ s → x ∈ t
-
--- the same, computed
-unfoldable pub part? : ℕ → ℕ → Bool
-part? s t = eqb (bitOr s t) t
 
 -- whether x is the role r; a number above 63 is no role
 unfoldable pub same? : ℕ → ℕ → Bool
