@@ -5,7 +5,7 @@ use board::Board;
 use board::Command;
 
 // 0 I 1, 1 I 2, 1 A 3
-pub fn p() -> Board
+pub(crate) fn p() -> Board
     ensures { λ r. ⌜ r ≡ P ⌝ }
 {
     let mut i = [0u64; Board::ROLES];
@@ -17,7 +17,7 @@ pub fn p() -> Board
 }
 
 // 0 I 1, 0 I 2, 0 I 3, 1 A 3, 1 A 4, 3 A 5, 4 A 5
-pub fn w() -> Board
+pub(crate) fn w() -> Board
     ensures { λ r. ⌜ r ≡ W ⌝ }
 {
     let mut i = [0u64; Board::ROLES];
@@ -34,7 +34,7 @@ pub fn w() -> Board
 }
 
 // 0 I 1, 1 I 2, 2 A 3, 0 A 3
-pub fn l() -> Board
+pub(crate) fn l() -> Board
     ensures { λ r. ⌜ r ≡ L ⌝ }
 {
     let mut i = [0u64; Board::ROLES];
@@ -70,25 +70,25 @@ fn command(
     }
 }
 
-pub fn add_role(actor: u8, role: u8, a_seniors: u64, i_seniors: u64) -> Command
+pub(crate) fn add_role(actor: u8, role: u8, a_seniors: u64, i_seniors: u64) -> Command
     ensures { λ r. ⌜ r ≡ addRole actor role «a_seniors» «i_seniors» ⌝ }
 {
     command(1, actor, role, 0, 0, a_seniors, i_seniors)
 }
 
-pub fn remove_role(actor: u8, role: u8) -> Command
+pub(crate) fn remove_role(actor: u8, role: u8) -> Command
     ensures { λ r. ⌜ r ≡ removeRole actor role ⌝ }
 {
     command(2, actor, role, 0, 0, 0, 0)
 }
 
-pub fn add_edge(actor: u8, senior: u8, junior: u8, kind: u8) -> Command
+pub(crate) fn add_edge(actor: u8, senior: u8, junior: u8, kind: u8) -> Command
     ensures { λ r. ⌜ r ≡ addEdge actor senior junior kind ⌝ }
 {
     command(3, actor, senior, junior, kind, 0, 0)
 }
 
-pub fn change_edge(actor: u8, senior: u8, junior: u8, kind: u8) -> Command
+pub(crate) fn change_edge(actor: u8, senior: u8, junior: u8, kind: u8) -> Command
     ensures { λ r. ⌜ r ≡ changeEdge actor senior junior kind ⌝ }
 {
     command(5, actor, senior, junior, kind, 0, 0)

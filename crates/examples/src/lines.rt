@@ -52,13 +52,13 @@ fn roles(s: u64) {
 
 // ---- questions
 
-pub fn sound(name: &[u8], b: Board) {
+pub(crate) fn sound(name: &[u8], b: Board) {
     text(name);
     text(b": sound: ");
     yes_or_no(checks::sound(b));
 }
 
-pub fn derives(name: &[u8], b: Board, x: u8, y: u8) {
+pub(crate) fn derives(name: &[u8], b: Board, x: u8, y: u8) {
     text(name);
     text(b": ");
     number(x);
@@ -87,7 +87,7 @@ fn members(b: Board, a: u8) {
 }
 
 // The scope of a, and its size in brackets.
-pub fn scope(name: &[u8], b: Board, a: u8) {
+pub(crate) fn scope(name: &[u8], b: Board, a: u8) {
     text(name);
     text(b": scope of ");
     number(a);
@@ -99,7 +99,7 @@ pub fn scope(name: &[u8], b: Board, a: u8) {
     text(b")\n");
 }
 
-pub fn manager(name: &[u8], b: Board, r: u8) {
+pub(crate) fn manager(name: &[u8], b: Board, r: u8) {
     text(name);
     text(b": line manager of ");
     number(r);
@@ -118,7 +118,7 @@ pub fn manager(name: &[u8], b: Board, r: u8) {
     text(b"\n");
 }
 
-pub fn steps(name: &[u8], b: Board, r: u8) {
+pub(crate) fn steps(name: &[u8], b: Board, r: u8) {
     text(name);
     text(b": steps from ");
     number(r);
@@ -157,7 +157,14 @@ fn edge(senior: u8, junior: u8, kind: u8) {
     number(kind);
 }
 
-pub fn add_role(name: &[u8], b: Board, a: u8, role: u8, a_seniors: u64, i_seniors: u64) -> Board {
+pub(crate) fn add_role(
+    name: &[u8],
+    b: Board,
+    a: u8,
+    role: u8,
+    a_seniors: u64,
+    i_seniors: u64,
+) -> Board {
     actor(name, a);
     text(b" adds role ");
     number(role);
@@ -168,21 +175,21 @@ pub fn add_role(name: &[u8], b: Board, a: u8, role: u8, a_seniors: u64, i_senior
     run(b, boards::add_role(a, role, a_seniors, i_seniors))
 }
 
-pub fn remove_role(name: &[u8], b: Board, a: u8, role: u8) -> Board {
+pub(crate) fn remove_role(name: &[u8], b: Board, a: u8, role: u8) -> Board {
     actor(name, a);
     text(b" removes role ");
     number(role);
     run(b, boards::remove_role(a, role))
 }
 
-pub fn add_edge(name: &[u8], b: Board, a: u8, senior: u8, junior: u8, kind: u8) -> Board {
+pub(crate) fn add_edge(name: &[u8], b: Board, a: u8, senior: u8, junior: u8, kind: u8) -> Board {
     actor(name, a);
     text(b" adds ");
     edge(senior, junior, kind);
     run(b, boards::add_edge(a, senior, junior, kind))
 }
 
-pub fn change_edge(name: &[u8], b: Board, a: u8, senior: u8, junior: u8, kind: u8) -> Board {
+pub(crate) fn change_edge(name: &[u8], b: Board, a: u8, senior: u8, junior: u8, kind: u8) -> Board {
     actor(name, a);
     text(b" changes ");
     edge(senior, junior, kind);
@@ -190,7 +197,7 @@ pub fn change_edge(name: &[u8], b: Board, a: u8, senior: u8, junior: u8, kind: u
 }
 
 // What is wrong with the board that a command would leave.
-pub fn trouble(name: &[u8], b: Board, c: Command) {
+pub(crate) fn trouble(name: &[u8], b: Board, c: Command) {
     text(name);
     text(b": trouble: ");
     number(checks::trouble(after(b, c)));
@@ -212,7 +219,7 @@ fn same_rows(s: [u64; 64], t: [u64; 64]) -> bool
 }
 
 // Whether the two boards are the same.
-pub fn same(name: &[u8], b: Board, d: Board) {
+pub(crate) fn same(name: &[u8], b: Board, d: Board) {
     text(name);
     text(b": ");
     let bi = b.i;
