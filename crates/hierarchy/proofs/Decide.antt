@@ -106,7 +106,7 @@ module _ {t : Tables} (shaped : Shaped t) where
   reaches-is x y = Iff·trans (close-is (both t) united-fits (row (both t) x) (united-fits x) y) (λ l. led t x (l .member) (l .chain), λ w. leads (w .1))
 
   -- entries are between roles
-  edge-lt : (x y : ℕ) → kind t x y ≢ 0 → (x < 64) × (y < 64)
+  pub edge-lt : (x y : ℕ) → kind t x y ≢ 0 → (x < 64) × (y < 64)
   edge-lt x y h = ⊎-elim
       (λ e. (row-lt (t .i) (shaped .i-rows) x y e, bit-lt 64 (shaped .i-fits x) e))
       (λ e. (row-lt (t .a) (shaped .a-rows) x y e, bit-lt 64 (shaped .a-fits x) e))

@@ -13,5 +13,6 @@ pub mod Walk
 pub mod Rows
 pub mod Sift
 pub mod Managing
-pub mod Spreads
-pub mod Peel
+pub mod Rounds
+pub mod Sweeps
+pub mod Order

@@ -38,16 +38,25 @@ module _ {down up : List ℕ} where
     λ s. test .1 (λ x m. near-is x ∙ ⊎-elim (or-left (bit (row up a) x) (bit (row down a) x)) (or-right (bit (row up a) x) (bit (row down a) x)) (s .rivals x m)),
   )
 
-  -- the loop over what derives r, but r itself, finds the administrators
-  pub admins-found : {r : ℕ} (s found : ℕ) → r < 64 → ((a : ℕ) → bit s a ≡ (bit (row up r) a && not (same? r a)))
-      → ((a : ℕ) → (a ∈ found) ↔ ((a ∈ s) × ScopeBy down up a r)) → (a : ℕ) → (a ∈ found) ↔ AdminBy down up a r
-  admins-found {r} s found l s-is h a = (
-    λ e. let p = h a .0 e in record { scope = p .1; strict = λ q. false-no (other (p .0)) (subst (λ (n : ℕ). same? r n ≡ true) (sym q) (same-self r l)) },
-    λ d. h a .1 (s-is a ∙ and-both (bit (row up r) a) (not (same? r a)) (d .scope .derived) (ap not (not-so (same? r a) (λ q. d .strict (same-eq r a q)))), d .scope),
+  -- of what derives r, but r itself, those with r in scope are its administrators
+  pub admin-iff : {r : ℕ} (s : ℕ) → r < 64 → ((a : ℕ) → bit s a ≡ (bit (row up r) a && not (same? r a)))
+      → (a : ℕ) → ((a ∈ s) × ScopeBy down up a r) ↔ AdminBy down up a r
+  admin-iff {r} s l s-is a = (
+    λ p. record { scope = p .1; strict = λ q. false-no (other (p .0)) (subst (λ (n : ℕ). same? r n ≡ true) (sym q) (same-self r l)) },
+    λ d. (s-is a ∙ and-both (bit (row up r) a) (not (same? r a)) (d .scope .derived) (ap not (not-so (same? r a) (λ q. d .strict (same-eq r a q)))), d .scope),
   )
     where
       other : a ∈ s → same? r a ≡ false
       other m = ⊎-elim (λ q. absurd (false-no (s-is a ∙ ap (λ (p : Bool). bit (row up r) a && not p) q ∙ mathlib.Core.Bool.and-false (bit (row up r) a)) m)) (λ q. q) (true-or-false (same? r a))
+
+  -- one that the loop finds, and what it is where it finds none
+  pub admin-found : {r a : ℕ} (s : ℕ) → r < 64 → ((a : ℕ) → bit s a ≡ (bit (row up r) a && not (same? r a)))
+      → a ∈ s → ScopeBy down up a r → (true ≡ true) ↔ ((a : ℕ) × AdminBy down up a r)
+  admin-found {r} {a} s l s-is m d = (λ _. (a, admin-iff s l s-is a .0 (m, d)), λ _. refl)
+
+  pub no-admin-found : {r : ℕ} (s : ℕ) → r < 64 → ((a : ℕ) → bit s a ≡ (bit (row up r) a && not (same? r a)))
+      → ((a : ℕ) → (a ∈ 0) ↔ ((a ∈ s) × ScopeBy down up a r)) → (false ≡ true) ↔ ((a : ℕ) × AdminBy down up a r)
+  no-admin-found s l s-is h = no-iff (λ w. false-no (bit-zero (w .0)) (h (w .0) .1 (admin-iff s l s-is (w .0) .1 (w .1))))
 
   -- the nearest of the administrators is the line manager
   pub manager-found : (r admins found : ℕ) (y : Pick) → ((a : ℕ) → (a ∈ admins) ↔ AdminBy down up a r)
@@ -98,23 +107,19 @@ managed-start {live} rest rest-is = record {
     gone : (r : ℕ) → r ≡ 0 → (bit live r && not (same? 0 r)) ≡ false
     gone r q = ap (λ (p : Bool). bit live r && not p) (ap (same? 0) q ∙ same-self 0 (omega arith)) ∙ mathlib.Core.Bool.and-false (bit live r)
 
-pub managed-turn : {live rest x rest′ : ℕ} {down up : List ℕ} (admins : ℕ) → admins < 2 ^ 64 → Taken rest x rest′ → Managing-so-far live down up rest
-    → ((a : ℕ) → (a ∈ admins) ↔ AdminBy down up a x) → (admins ≡ 0 → ⊥) → Managing-so-far live down up rest′
-managed-turn {x = x} {down = down} {up = up} admins fits turn inv h n = record {
+pub managed-turn : {live rest x rest′ : ℕ} {down up : List ℕ} → Taken rest x rest′ → Managing-so-far live down up rest
+    → (a : ℕ) × AdminBy down up a x → Managing-so-far live down up rest′
+managed-turn {x = x} {down = down} {up = up} turn inv some = record {
   part = λ r e. inv .part r (taken-part turn r e);
   done = λ r m z. ⊎-elim (λ e. ⊎-elim (λ k. inl k) (λ q. inr (subst (λ (k : ℕ). (a : ℕ) × AdminBy down up a k) (sym q) some)) (taken-kept turn r e)) (λ d. inr d) (inv .done r m z);
 }
-  where
-    some : (a : ℕ) × AdminBy down up a x
-    some = let p = a-member admins fits n in (p .0, h (p .0) .0 (p .1))
 
 pub managed-end : {live rest : ℕ} {down up : List ℕ} → NoRole rest → Managing-so-far live down up rest → (true ≡ true) ↔ ManagedBy live down up
 managed-end empty inv = (λ _ r m n. ⊎-elim (λ e. absurd (false-no (empty .none r) e)) (λ d. d) (inv .done r m n), λ _. refl)
 
-pub unmanaged : {live rest x : ℕ} {down up : List ℕ} (admins : ℕ) → x ∈ rest → Managing-so-far live down up rest
-    → ((a : ℕ) → (a ∈ admins) ↔ AdminBy down up a x) → admins ≡ 0 → (false ≡ true) ↔ ManagedBy live down up
-unmanaged {x = x} admins m inv h z =
-    no-iff (λ all. let p = inv .part x m in let a = all x (p .0) (p .1) in false-no (ap (λ (n : ℕ). bit n (a .0)) z ∙ bit-zero (a .0)) (h (a .0) .1 (a .1)))
+pub unmanaged : {live rest x : ℕ} {down up : List ℕ} → x ∈ rest → Managing-so-far live down up rest
+    → ((a : ℕ) × AdminBy down up a x → ⊥) → (false ≡ true) ↔ ManagedBy live down up
+unmanaged {x = x} m inv n = no-iff (λ all. let p = inv .part x m in n (all x (p .0) (p .1)))
 
 -- ---- the climb
 

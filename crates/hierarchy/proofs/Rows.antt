@@ -1,7 +1,7 @@
 -- Tables that a loop fills, row by row or member by member. Assumes nothing.
 use mathlib.Core.Path.{_≡_, refl, sym, ap, ap₂, _∙_, subst}
 use mathlib.Core.Bool.{Bool, true, false, not, _&&_, _||_, and-true, and-false, or-false, and-not-self}
-use mathlib.Core.Logic.{_⊎_, ⊎-elim, _≢_, dite}
+use mathlib.Core.Logic.{⊎-elim, _≢_, dite}
 use mathlib.Core.List.{List}
 use Prim.Native.Nat.{ℕ, zero, suc, _<_}
 use native.Mathlib.Decide.{ℕ-discrete}

@@ -1,13 +1,17 @@
 -- What the steps of the engine behind the views promise each other. No promise of a public function speaks of these.
 use mathlib.Core.Path.{_≡_}
 use mathlib.Core.Logic.{_⊎_, _↔_}
-use mathlib.Core.Bool.{_&&_, _||_}
+use mathlib.Core.Bool.{false, _&&_, _||_}
 use mathlib.Core.List.{List}
-use Prim.Native.Nat.{ℕ, _<_}
+use Prim.Native.Nat.{ℕ}
 use lib.ListN.{length}
 use Rattle.sets.specs.Sets.{bit, _∈_, _⊆_, same?}
 use Rattle.hierarchy.specs.Tables.{Tables, tables, row}
 use Rattle.hierarchy.specs.Words.{Derives, Reaches, Chain}
+
+-- an entry of either table
+abbrev pub Entry : List ℕ → List ℕ → ℕ → ℕ → Type 0
+Entry i a x y = (y ∈ row i x) ⊎ (y ∈ row a x)
 
 -- z is in the row of a role of s
 pub record InRows (table : List ℕ) (s z : ℕ) : Type 0 where
@@ -15,42 +19,61 @@ pub record InRows (table : List ℕ) (s z : ℕ) : Type 0 where
   pub member : of ∈ s
   pub on : z ∈ row table of
 
--- every junior in a table is a role
-abbrev pub Roles : List ℕ → Type 0
-Roles table = (x y : ℕ) → y ∈ row table x → y < 64
-
--- r has all of live, and all that its members have as juniors
-pub record Spans (i a : List ℕ) (live r : ℕ) : Type 0 where
-  pub whole : live ⊆ r
-  pub closed : (x y : ℕ) → x ∈ r → (y ∈ row i x) ⊎ (y ∈ row a x) → y < 64 → y ∈ r
-
--- through the table x leads to a role whose row of base has z
-pub record Spread (table base : List ℕ) (x z : ℕ) : Type 0 where
+-- through the table x leads to a role that has z as its own
+pub record Spread (table : List ℕ) (Own : ℕ → ℕ → Type 0) (x z : ℕ) : Type 0 where
   pub at : ℕ
   pub chain : Chain table x at
-  pub on : z ∈ row base at
+  pub on : Own at z
 
--- the rows of the roles that are done are right
-pub record Right (table base reach : List ℕ) (done : ℕ) : Type 0 where
-  pub rows : length reach ≡ 64
-  pub right : (x : ℕ) → x ∈ done → (z : ℕ) → (z ∈ row reach x) ↔ Spread table base x z
+-- by I alone every role has itself as its own; by A, and then by I, what it leads to by I
+abbrev pub ByI : List ℕ → ℕ → ℕ → Type 0
+ByI i = Spread i (λ x z. x ≡ z)
 
--- the row of x is now that of base and those of its juniors, and the others are as they were
-pub record Settled (table base old : List ℕ) (x : ℕ) (reach : List ℕ) : Type 0 where
+abbrev pub ByAI : List ℕ → List ℕ → ℕ → ℕ → Type 0
+ByAI i a = Spread a (ByI i)
+
+-- r is now the row of x: what it has as its own, and the rows of its juniors; the others are as they were
+pub record Settled (table old : List ℕ) (x own r : ℕ) (reach : List ℕ) : Type 0 where
   pub rows : length reach ≡ 64
-  pub here : (z : ℕ) → (z ∈ row reach x) ↔ ((z ∈ row base x) ⊎ InRows old (row table x) z)
+  pub is : row reach x ≡ r
+  pub here : (z : ℕ) → (z ∈ r) ↔ ((z ∈ own) ⊎ InRows old (row table x) z)
   pub others : (y : ℕ) → (y ≡ x → ⊥) → row reach y ≡ row old y
 
--- more is done than was, and rightly
-pub record Swept (table base : List ℕ) (done : ℕ) (reach : List ℕ) (r : ℕ) : Type 0 where
-  pub right : Right table base reach r
-  pub more : done ⊆ r
+-- the rows of the roles that are done are right, the others blank
+pub record RightRows (table : List ℕ) (Own : ℕ → ℕ → Type 0) (reach : List ℕ) (done : ℕ) : Type 0 where
+  pub rows : length reach ≡ 64
+  pub right : (x : ℕ) → x ∈ done → (z : ℕ) → (z ∈ row reach x) ↔ Spread table Own x z
+  pub blank : (x : ℕ) → bit done x ≡ false → row reach x ≡ 0
 
--- all that was left is done too
-pub record Finished (table base : List ℕ) (done left : ℕ) (reach : List ℕ) (r : ℕ) : Type 0 where
-  pub right : Right table base reach r
+-- both tables are right so far; juniors of roles that are done are done, and none of these reaches itself
+pub record Right (i a by-i down : List ℕ) (done : ℕ) : Type 0 where
+  pub i-rows : RightRows i (λ x z. x ≡ z) by-i done
+  pub a-rows : RightRows a (ByI i) down done
+  pub closed : (x y : ℕ) → x ∈ done → Entry i a x y → y ∈ done
+  pub loopless : (live x : ℕ) → x ∈ done → Reaches (tables live i a) x x → ⊥
+
+-- x has a junior that isn't done
+abbrev pub Waits : List ℕ → List ℕ → ℕ → ℕ → Type 0
+Waits i a done x = (y : ℕ) × Entry i a x y × (bit done y ≡ false)
+
+-- more is done than was, and rightly; what was left and isn't done was waiting
+pub record Swept (i a : List ℕ) (done left : ℕ) (by-i down : List ℕ) (r : ℕ) : Type 0 where
+  pub right : Right i a by-i down r
   pub more : done ⊆ r
-  pub rest : left ⊆ r
+  pub part : (x : ℕ) → x ∈ r → (x ∈ done) ⊎ (x ∈ left)
+  pub waiting : (x : ℕ) → x ∈ left → (x ∈ r) ⊎ Waits i a done x
+
+-- of the live roles all are done but those that wait for ever
+pub record Ordered (live : ℕ) (i a by-i down : List ℕ) (r : ℕ) : Type 0 where
+  pub right : Right i a by-i down r
+  pub part : r ⊆ live
+  pub waiting : (x : ℕ) → x ∈ live → (x ∈ r) ⊎ Waits i a r x
+
+-- the rows of all but some live roles are what they derive
+pub record Finishing (t : Tables) (down : List ℕ) (left : ℕ) : Type 0 where
+  pub rows : length down ≡ 64
+  pub part : left ⊆ t .live
+  pub settled : (x : ℕ) → bit left x ≡ false → (z : ℕ) → (z ∈ row down x) ↔ Derives t x z
 
 -- each row of down is what its role derives
 abbrev pub IsDown : Tables → List ℕ → Type 0
@@ -64,13 +87,3 @@ IsUp live down up = (x y : ℕ) → (x ∈ row up y) ↔ ((x ∈ live) × (y ∈
 pub record Marked (up : List ℕ) (s x : ℕ) (marked : List ℕ) : Type 0 where
   pub rows : length marked ≡ 64
   pub members : (y z : ℕ) → bit (row marked y) z ≡ (bit (row up y) z || (bit s y && same? x z))
-
--- s has every role that reaches itself
-abbrev pub HoldsLoops : List ℕ → List ℕ → ℕ → Type 0
-HoldsLoops i a s = (live x : ℕ) → Reaches (tables live i a) x x → x ∈ s
-
--- r is left but for roles that had no junior left
-pub record Peeling (i a : List ℕ) (left r : ℕ) : Type 0 where
-  pub part : r ⊆ left
-  pub juniors : (x : ℕ) → x ∈ r → (y : ℕ) × (y ∈ left) × ((y ∈ row i x) ⊎ (y ∈ row a x))
-  pub loops : HoldsLoops i a left → HoldsLoops i a r

@@ -1,5 +1,7 @@
 -- The two tables that are worked out once a board and handed on: row x of `down` is the set of what x derives, row y of `up` the
 -- set of what derives y. The words of scope again, read off such tables; `Rattle.hierarchy.proofs.ViewLaws` says that they are the same.
+use mathlib.Core.Path.{_≡_}
+use mathlib.Core.Bool.{Bool, true}
 use mathlib.Core.Logic.{_≢_, _⊎_, _↔_}
 use mathlib.Core.List.{List}
 use Prim.Native.Nat.{ℕ, suc, _≤_, _<_}
@@ -8,8 +10,8 @@ use Rattle.sets.specs.declared.Pick.{Pick}
 use Rattle.sets.specs.declared.Pick.the-variants.{Role, Nobody}
 use Rattle.hierarchy.specs.declared.scopes.Climbed.{Climbed}
 use Rattle.hierarchy.specs.declared.scopes.Climbed.the-variants.{Steps, Stopped}
-use Rattle.hierarchy.specs.Tables.{Tables, row}
-use Rattle.hierarchy.specs.Words.{Derives, Chain}
+use Rattle.hierarchy.specs.Tables.{Tables, row, Live, kind}
+use Rattle.hierarchy.specs.Words.{Derives, Reaches, Chain}
 
 -- y is led to, through one table alone, from a role of s
 pub record Led (rows : List ℕ) (s y : ℕ) : Type 0 where
@@ -21,6 +23,17 @@ pub record Led (rows : List ℕ) (s y : ℕ) : Type 0 where
 pub record AreViews (t : Tables) (down up : List ℕ) : Type 0 where
   pub down-is : (x y : ℕ) → (y ∈ row down x) ↔ Derives t x y
   pub up-is : (x y : ℕ) → (x ∈ row up y) ↔ Derives t x y
+
+-- The live roles are in order: all juniors of theirs live, and none reaches itself. Where entries join live roles, this is that there
+-- is no loop (`Rattle.hierarchy.proofs.Order`, `order-loopless`).
+pub record InOrder (t : Tables) : Type 0 where
+  pub juniors : (x y : ℕ) → Live t x → kind t x y ≢ 0 → Live t y
+  pub loopless : (x : ℕ) → Live t x → Reaches t x x → ⊥
+
+-- both views, and whether there is order
+pub record WorkedOut (t : Tables) (down up : List ℕ) (order : Bool) : Type 0 where
+  pub views : AreViews t down up
+  pub in-order : (order ≡ true) ↔ InOrder t
 
 -- r is in the scope of a
 pub record ScopeBy (down up : List ℕ) (a r : ℕ) : Type 0 where

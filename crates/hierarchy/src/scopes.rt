@@ -1,11 +1,12 @@
-// Scopes, administrators and line managers, read off the views of a board.
+// Scopes, administrators and line managers, read off the views of a board, which are lent. A table that is lent has 64 rows; its type
+// doesn't tell the prover so, and where a role above 63 may be asked for, the promise names it.
 ghost use mathlib.Core.Path.{_≡_};
 ghost use mathlib.Core.Bool.{true};
 ghost use mathlib.Core.Logic.{_↔_};
 ghost use Prim.Native.Nat.{ℕ, _<_};
+ghost use lib.ListN.{length};
 ghost use Rattle.sets.specs.Sets.{_∈_};
 ghost use Rattle.hierarchy.specs.Views.{ScopeBy, AdminBy, ManagedBy, Nearest, Managing, Climbing};
-use crate::views::Views;
 use sets::Pick;
 use sets::has;
 use sets::lowest;
@@ -96,8 +97,25 @@ fn manager_of<'v>(down: &'v [u64; 64], up: &'v [u64; 64], r: usize) -> Pick
     lowest(nearest(up, administrators))
 }
 
+// Whether r has an administrator. They are tried from the lowest on: the first is mostly role 0.
+fn administered<'v>(down: &'v [u64; 64], up: &'v [u64; 64], r: usize) -> bool
+    requires { ⌜ r < 64 ⌝ }
+    ensures { λ y. ⌜ (y ≡ true) ↔ ((a : ℕ) × AdminBy (now (down .entry)) (now (up .entry)) a r) ⌝ }
+{
+    let mut rest = without(up[r], r);
+    loop {
+        let Pick::Role(a) = lowest(rest) else {
+            return false;
+        };
+        if in_scope(down, up, a, r) {
+            return true;
+        }
+        rest = without(rest, a);
+    }
+}
+
 // Whether each role of live, but role 0, has an administrator.
-fn all_managed<'v>(live: u64, down: &'v [u64; 64], up: &'v [u64; 64]) -> bool
+pub fn managed<'v>(live: u64, down: &'v [u64; 64], up: &'v [u64; 64]) -> bool
     ensures { λ y. ⌜ (y ≡ true) ↔ ManagedBy live (now (down .entry)) (now (up .entry)) ⌝ }
 {
     let mut rest = without(live, 0);
@@ -105,7 +123,7 @@ fn all_managed<'v>(live: u64, down: &'v [u64; 64], up: &'v [u64; 64]) -> bool
         let Pick::Role(r) = lowest(rest) else {
             return true;
         };
-        if administrators_of(down, up, r) == 0 {
+        if !administered(down, up, r) {
             return false;
         }
         rest = without(rest, r);
@@ -113,45 +131,38 @@ fn all_managed<'v>(live: u64, down: &'v [u64; 64], up: &'v [u64; 64]) -> bool
 }
 
 // The scope of a, as a set.
-pub fn scope(v: Views, a: usize) -> u64
-    ensures { λ y. ⌜ ((r : ℕ) → (r ∈ y) ↔ ScopeBy (v .down) (v .up) a r) ⌝ }
+pub fn scope<'v>(down: &'v [u64; 64], up: &'v [u64; 64], a: usize) -> u64
+    ensures { λ y. ⌜ (length (now (down .entry)) ≡ 64 → (r : ℕ) → (r ∈ y) ↔ ScopeBy (now (down .entry)) (now (up .entry)) a r) ⌝ }
 {
     if a < 64 {
-        return scope_of(&v.down, &v.up, a);
+        return scope_of(down, up, a);
     }
     0
 }
 
 // The administrators of r, as a set.
-pub fn administrators(v: Views, r: usize) -> u64
-    ensures { λ y. ⌜ ((a : ℕ) → (a ∈ y) ↔ AdminBy (v .down) (v .up) a r) ⌝ }
+pub fn administrators<'v>(down: &'v [u64; 64], up: &'v [u64; 64], r: usize) -> u64
+    ensures { λ y. ⌜ (length (now (up .entry)) ≡ 64 → (a : ℕ) → (a ∈ y) ↔ AdminBy (now (down .entry)) (now (up .entry)) a r) ⌝ }
 {
     if r < 64 {
-        return administrators_of(&v.down, &v.up, r);
+        return administrators_of(down, up, r);
     }
     0
 }
 
 // The line manager of r, or nobody.
-pub fn manager(v: Views, r: usize) -> Pick
-    ensures { λ y. ⌜ Managing (v .down) (v .up) r y ⌝ }
+pub fn manager<'v>(down: &'v [u64; 64], up: &'v [u64; 64], r: usize) -> Pick
+    ensures { λ y. ⌜ (length (now (up .entry)) ≡ 64 → Managing (now (down .entry)) (now (up .entry)) r y) ⌝ }
 {
     if r < 64 {
-        return manager_of(&v.down, &v.up, r);
+        return manager_of(down, up, r);
     }
     Pick::Nobody
 }
 
-// Whether each role of live, but role 0, has an administrator.
-pub fn managed(live: u64, v: Views) -> bool
-    ensures { λ y. ⌜ (y ≡ true) ↔ ManagedBy live (v .down) (v .up) ⌝ }
-{
-    all_managed(live, &v.down, &v.up)
-}
-
 // The steps from r to role 0 by line managers. Sound tables need fewer than 64; where there is no line manager the climb stops.
-pub fn steps(v: Views, r: usize) -> Climbed
-    ensures { λ y. ⌜ Climbing (v .down) (v .up) r y ⌝ }
+pub fn steps<'v>(down: &'v [u64; 64], up: &'v [u64; 64], r: usize) -> Climbed
+    ensures { λ y. ⌜ (length (now (up .entry)) ≡ 64 → Climbing (now (down .entry)) (now (up .entry)) r y) ⌝ }
 {
     let mut x = r;
     let mut n: usize = 0;
@@ -159,7 +170,7 @@ pub fn steps(v: Views, r: usize) -> Climbed
         if x == 0 {
             return Climbed::Steps(n);
         }
-        let Pick::Role(m) = manager(v, x) else {
+        let Pick::Role(m) = manager(down, up, x) else {
             return Climbed::Stopped;
         };
         x = m;

@@ -1,13 +1,12 @@
 // The views of a board: what each role derives, and what derives it.
 ghost use mathlib.Core.Path.{_≡_};
-ghost use mathlib.Core.Bool.{_&&_};
 ghost use mathlib.Core.Logic.{_↔_};
 ghost use Prim.Native.Nat.{ℕ, _<_};
 ghost use lib.ListN.{length, replicate};
-ghost use Rattle.sets.specs.Sets.{bit, same?, _∈_};
-ghost use Rattle.hierarchy.specs.Tables.{tables, row};
-ghost use Rattle.hierarchy.specs.Views.{Led, AreViews};
-ghost use Rattle.hierarchy.specs.Engine.{InRows, Roles, Spans, Spread, Right, Settled, Swept, Finished, IsDown, IsUp, Marked};
+ghost use Rattle.sets.specs.Sets.{_∈_};
+ghost use Rattle.hierarchy.specs.Tables.{tables};
+ghost use Rattle.hierarchy.specs.Views.{Led, WorkedOut};
+ghost use Rattle.hierarchy.specs.Engine.{InRows, Settled, Right, Swept, Ordered, Finishing, IsDown, IsUp, Marked};
 use sets::Pick;
 use sets::common;
 use sets::highest;
@@ -18,14 +17,6 @@ use sets::union;
 use sets::with;
 use sets::within;
 use sets::without;
-
-const EVERY: u64 = 0xffff_ffff_ffff_ffff;
-
-// Row x of down is the set of what x derives, row y of up the set of what derives y.
-pub struct Views {
-    pub down: [u64; 64],
-    pub up: [u64; 64],
-}
 
 // What the roles of seed lead to through one table, they themselves included. Each turn settles one role, so there are at most 64.
 pub fn closure(table: &[u64; 64], seed: u64) -> u64
@@ -57,58 +48,36 @@ fn rows(table: &[u64; 64], s: u64) -> u64
     }
 }
 
-// All roles that the live ones can lead to: the live ones themselves, where every entry of theirs is live.
-fn span<'t>(live: u64, i: &'t [u64; 64], a: &'t [u64; 64]) -> u64
-    ensures { λ r. ⌜ Spans (now (i .entry)) (now (a .entry)) live r ⌝ }
-{
-    if within(union(rows(i, live), rows(a, live)), live) {
-        return live;
-    }
-    EVERY
-}
-
 // No row has a member.
-fn blank() -> [u64; 64]
-    ensures { λ r. ⌜ r ≡ replicate 64 0 ⌝ }
+fn blank(table: &mut [u64; 64])
+    ensures { λ _. ⌜ now (table .exit) ≡ replicate 64 0 ⌝ }
 {
-    [0; 64]
+    *table = [0; 64];
 }
 
-// Row x is the role x alone, for the roles of s.
-fn singles(s: u64) -> [u64; 64]
-    ensures { λ r. ⌜ ((x : ℕ) → x ∈ s → (z : ℕ) → bit (row r x) z ≡ same? x z) ⌝ }
-{
-    let mut table = blank();
-    let mut rest = s;
-    loop {
-        let Pick::Role(x) = lowest(rest) else {
-            return table;
-        };
-        table[x] = single(x);
-        rest = without(rest, x);
-    }
-}
-
-// Role x is settled by its juniors' rows.
-fn settle<'t>(table: &'t [u64; 64], base: &'t [u64; 64], reach: &mut [u64; 64], x: usize)
+// The row of role x is what it has of its own and the rows of its juniors in the table.
+fn settle(table: &[u64; 64], reach: &mut [u64; 64], x: usize, own: u64) -> u64
     requires { ⌜ (x < 64) × (length (now reach) ≡ 64) ⌝ }
-    ensures { λ _. ⌜ Settled (now (table .entry)) (now (base .entry)) (now (reach .entry)) x (now (reach .exit)) ⌝ }
+    ensures { λ r. ⌜ Settled (now (table .entry)) (now (reach .entry)) x own r (now (reach .exit)) ⌝ }
 {
     let below = rows(reach, table[x]);
-    reach[x] = union(base[x], below);
+    let row = union(own, below);
+    reach[x] = row;
+    row
 }
 
 // One sweep over the roles that are left, from the highest down, since juniors mostly have the higher numbers: a role whose
-// juniors are all done is settled.
+// juniors are all done is settled, first by I alone, then by A and from there by I.
 fn sweep<'t>(
-    table: &'t [u64; 64],
-    base: &'t [u64; 64],
-    reach: &mut [u64; 64],
+    i: &'t [u64; 64],
+    a: &'t [u64; 64],
+    by_i: &mut [u64; 64],
+    down: &mut [u64; 64],
     done: u64,
     left: u64,
 ) -> u64
-    requires { ⌜ Right (now table) (now base) (now reach) done ⌝ }
-    ensures { λ r. ⌜ Swept (now (table .entry)) (now (base .entry)) done (now (reach .exit)) r ⌝ }
+    requires { ⌜ Right (now i) (now a) (now «by_i») (now down) done ⌝ }
+    ensures { λ r. ⌜ Swept (now (i .entry)) (now (a .entry)) done left (now («by_i» .exit)) (now (down .exit)) r ⌝ }
 {
     let mut now_done = done;
     let mut rest = left;
@@ -117,80 +86,51 @@ fn sweep<'t>(
             return now_done;
         };
         rest = without(rest, x);
-        if within(table[x], now_done) {
-            settle(table, base, reach, x);
+        if within(union(i[x], a[x]), now_done) {
+            let row = settle(i, by_i, x, single(x));
+            settle(a, down, x, row);
             now_done = with(now_done, x);
         }
     }
 }
 
-// A role on the way to a loop has juniors that can't be done before it: each such role is settled by a closure of its own.
-fn finish<'t>(
-    table: &'t [u64; 64],
-    base: &'t [u64; 64],
-    reach: &mut [u64; 64],
-    done: u64,
-    left: u64,
+// Sweeps until nothing more is done; gives the roles that are.
+fn order<'t>(
+    live: u64,
+    i: &'t [u64; 64],
+    a: &'t [u64; 64],
+    by_i: &mut [u64; 64],
+    down: &mut [u64; 64],
 ) -> u64
-    requires { ⌜ Right (now table) (now base) (now reach) done ⌝ }
-    ensures { λ r. ⌜ Finished (now (table .entry)) (now (base .entry)) done left (now (reach .exit)) r ⌝ }
+    requires { ⌜ Right (now i) (now a) (now «by_i») (now down) 0 ⌝ }
+    ensures { λ r. ⌜ Ordered live (now (i .entry)) (now (a .entry)) (now («by_i» .exit)) (now (down .exit)) r ⌝ }
 {
-    let mut now_done = done;
-    let mut rest = left;
-    loop {
-        let Pick::Role(x) = lowest(rest) else {
-            return now_done;
-        };
-        reach[x] = rows(base, closure(table, single(x)));
-        now_done = with(now_done, x);
-        rest = without(rest, x);
-    }
-}
-
-// For each role x of among: the union of the rows of base of all that x leads to through the table, x itself included.
-fn spread<'t>(table: &'t [u64; 64], base: &'t [u64; 64], among: u64) -> [u64; 64]
-    ensures { λ r. ⌜ ((x : ℕ) → x ∈ among → (z : ℕ) → (z ∈ row r x) ↔ Spread (now (table .entry)) (now (base .entry)) x z) ⌝ }
-{
-    let mut reach = blank();
     let mut done: u64 = 0;
-    let mut left = among;
+    let mut left = live;
     loop {
-        let more = sweep(table, base, &mut reach, done, left);
+        let more = sweep(i, a, by_i, down, done, left);
         let rest = minus(left, more);
         if rest == left {
-            finish(table, base, &mut reach, more, left);
-            return reach;
+            return more;
         }
         done = more;
         left = rest;
     }
 }
 
-// What each live role derives, from what it leads to.
-fn cut(live: u64, reach: &[u64; 64]) -> [u64; 64]
-    ensures { λ r. ⌜ ((x z : ℕ) → bit (row r x) z ≡ (bit live x && (bit (row (now (reach .entry)) x) z && bit live z))) ⌝ }
+// A role on the way to a loop, or to a role that isn't live, can't be settled by its juniors: each such role gets closures of its own.
+fn finish<'t>(live: u64, i: &'t [u64; 64], a: &'t [u64; 64], down: &mut [u64; 64], left: u64)
+    requires { ⌜ Finishing (tables live (now i) (now a)) (now down) left ⌝ }
+    ensures { λ _. ⌜ IsDown (tables live (now (i .entry)) (now (a .entry))) (now (down .exit)) ⌝ }
 {
-    let mut down = blank();
-    let mut rest = live;
+    let mut rest = left;
     loop {
         let Pick::Role(x) = lowest(rest) else {
-            return down;
+            return;
         };
-        down[x] = common(reach[x], live);
+        down[x] = common(live, closure(i, closure(a, single(x))));
         rest = without(rest, x);
     }
-}
-
-// What each role derives: down by A, then by I, among the live.
-fn downs<'t>(live: u64, i: &'t [u64; 64], a: &'t [u64; 64]) -> [u64; 64]
-    requires { ⌜ Roles (now i) × Roles (now a) ⌝ }
-    ensures { λ r. ⌜ IsDown (tables live (now (i .entry)) (now (a .entry))) r ⌝ }
-{
-    let among = span(live, i, a);
-    let one = singles(among);
-    let by_i = spread(i, &one, among);
-    let by_a = spread(a, &by_i, among);
-    cut(live, &by_a)
 }
 
 // x goes into the row of each role of s.
@@ -209,25 +149,36 @@ fn mark(up: &mut [u64; 64], s: u64, x: usize)
 }
 
 // What derives each role: `down` turned round, by its members.
-fn ups(live: u64, down: &[u64; 64]) -> [u64; 64]
-    ensures { λ r. ⌜ IsUp live (now (down .entry)) r ⌝ }
+fn turn(live: u64, down: &[u64; 64], up: &mut [u64; 64])
+    ensures { λ _. ⌜ IsUp live (now (down .entry)) (now (up .exit)) ⌝ }
 {
-    let mut up = blank();
+    blank(up);
     let mut rest = live;
     loop {
         let Pick::Role(x) = lowest(rest) else {
-            return up;
+            return;
         };
-        mark(&mut up, down[x], x);
+        mark(up, down[x], x);
         rest = without(rest, x);
     }
 }
 
-// Both views of a board.
-pub fn work_out(live: u64, i: [u64; 64], a: [u64; 64]) -> Views
-    ensures { λ r. ⌜ AreViews (tables live i a) (r .down) (r .up) ⌝ }
+// Both views of a board, and whether its live roles are in order: row x of `down` is the set of what x derives, row y of `up` the set
+// of what derives y.
+pub fn work_out<'t>(
+    live: u64,
+    i: &'t [u64; 64],
+    a: &'t [u64; 64],
+    down: &mut [u64; 64],
+    up: &mut [u64; 64],
+) -> bool
+    ensures { λ r. ⌜ WorkedOut (tables live (now (i .entry)) (now (a .entry))) (now (down .exit)) (now (up .exit)) r ⌝ }
 {
-    let down = downs(live, &i, &a);
-    let up = ups(live, &down);
-    Views { down, up }
+    let mut by_i = [0u64; 64];
+    blank(down);
+    let done = order(live, i, a, &mut by_i, down);
+    let left = minus(live, done);
+    finish(live, i, a, down, left);
+    turn(live, down, up);
+    left == 0
 }

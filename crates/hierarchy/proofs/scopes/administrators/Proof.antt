@@ -1,5 +1,3 @@
-use mathlib.Core.Path.{_≡_}
-use lib.ListN.{length}
 use Rattle.sets.proofs.Bools.{false-no}
 use Rattle.sets.proofs.Digits.{bit-zero}
 use Rattle.hierarchy.proofs.Managing.{past-row}
@@ -14,10 +12,7 @@ returns : tie.Need-returns
 returns c = search needs
 
 returns-2 : tie.Need-returns-2
-returns-2 c = λ a. (λ e. absurd (false-no (bit-zero a) e), λ d. absurd (past-row (c .before .args .t1 .up) (c .before .args .r) a rows (c .if1 .left) (d .scope .derived)))
-  where
-    rows : length (c .before .args .t1 .up) ≡ 64
-    rows = search needs
+returns-2 c = λ rows a. (λ e. absurd (false-no (bit-zero a) e), λ d. absurd (past-row (c .before .args .up .now) (c .before .args .r) a rows (c .if1 .left) (d .scope .derived)))
 
 pub administrators-spec : {M : Type 1} → statement M
 administrators-spec = tie.close (tie.spec administrators-of-requires returns returns-2)

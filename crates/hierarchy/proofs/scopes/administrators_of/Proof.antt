@@ -1,10 +1,10 @@
 use borrow.Author.Needs.{needs}
-use mathlib.Core.Logic.{⊎-elim}
+use mathlib.Core.Logic.{⊎-elim, Iff·trans}
 use lib.Count.{ones}
 use Rattle.sets.proofs.Members.{Taken, picked, nobody, taken-less}
 use Rattle.hierarchy.specs.Views.{ScopeBy}
 use Rattle.hierarchy.proofs.Sift.{Sifted, sift-start, sift-in, sift-out, sift-end}
-use Rattle.hierarchy.proofs.Managing.{admins-found}
+use Rattle.hierarchy.proofs.Managing.{admin-iff}
 use Rattle.sets.proofs.Bools.{false-no}
 use Rattle.hierarchy.proofs.scopes.administrators_of.Statement.{statement}
 use Rattle.hierarchy.proofs.scopes.administrators_of.Tie as tie
@@ -37,7 +37,7 @@ enum-told : tie.Need-enum-told Inv-loop μ-loop
 enum-told c = search needs
 
 returns : tie.Need-returns Inv-loop μ-loop
-returns c = admins-found (c .before .before .before .before .without .result) _ (c .before .before .before .before .before .before .pre) (c .before .before .before .before .without .ensures) (sift-end (nobody (c .enum-told .given .1) (c .before .before .lowest .ensures)) (c .before .before .before .loop .inv))
+returns c = λ a. Iff·trans (sift-end (nobody (c .enum-told .given .1) (c .before .before .lowest .ensures)) (c .before .before .before .loop .inv) a) (admin-iff (c .before .before .before .before .without .result) (c .before .before .before .before .before .before .pre) (c .before .before .before .before .without .ensures) a)
 
 in-scope-requires : tie.Need-in-scope-requires Inv-loop μ-loop
 in-scope-requires c κs = (picked (c .before .a .given .1) (c .before .before .before .lowest .ensures) .role, c .before .before .before .before .before .before .before .pre)

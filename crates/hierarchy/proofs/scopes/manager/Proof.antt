@@ -1,5 +1,3 @@
-use mathlib.Core.Path.{_≡_}
-use lib.ListN.{length}
 use Rattle.hierarchy.proofs.Managing.{past-row}
 use borrow.Author.Needs.{needs}
 use Rattle.hierarchy.proofs.scopes.manager.Statement.{statement}
@@ -12,10 +10,7 @@ returns : tie.Need-returns
 returns c = search needs
 
 returns-2 : tie.Need-returns-2
-returns-2 c = λ m b. past-row (c .before .args .t1 .up) (c .before .args .r) m rows (c .if1 .left) (b .admin .scope .derived)
-  where
-    rows : length (c .before .args .t1 .up) ≡ 64
-    rows = search needs
+returns-2 c = λ rows m b. past-row (c .before .args .up .now) (c .before .args .r) m rows (c .if1 .left) (b .admin .scope .derived)
 
 pub manager-spec : {M : Type 1} → statement M
 manager-spec = tie.close (tie.spec manager-of-requires returns returns-2)

@@ -1,5 +1,3 @@
-use mathlib.Core.Path.{_≡_}
-use lib.ListN.{length}
 use Rattle.sets.proofs.Bools.{false-no}
 use Rattle.sets.proofs.Digits.{bit-zero}
 use Rattle.hierarchy.proofs.Managing.{past-row}
@@ -14,10 +12,7 @@ returns : tie.Need-returns
 returns c = search needs
 
 returns-2 : tie.Need-returns-2
-returns-2 c = λ r. (λ e. absurd (false-no (bit-zero r) e), λ s. absurd (past-row (c .before .args .t1 .down) (c .before .args .a) r rows (c .if1 .left) (s .derives)))
-  where
-    rows : length (c .before .args .t1 .down) ≡ 64
-    rows = search needs
+returns-2 c = λ rows r. (λ e. absurd (false-no (bit-zero r) e), λ d. absurd (past-row (c .before .args .down .now) (c .before .args .a) r rows (c .if1 .left) (d .derives)))
 
 pub scope-spec : {M : Type 1} → statement M
 scope-spec = tie.close (tie.spec scope-of-requires returns returns-2)

@@ -1,16 +1,22 @@
 use borrow.Author.Needs.{needs}
 use native.Mathlib.Omega.{arith}
 use lib.Count.{ones}
+use Prim.Native.Nat.{ℕ}
+use mathlib.Core.Logic.{_↔_}
+use Rattle.sets.specs.Sets.{_∈_}
 use Rattle.sets.proofs.Members.{Taken, picked, nobody, taken-less}
-use Rattle.hierarchy.proofs.Spreads.{Finishing, finish-start, finish-turn, finish-end}
+use Rattle.hierarchy.specs.Tables.{tables}
+use Rattle.hierarchy.specs.Words.{Derives}
+use Rattle.hierarchy.proofs.Rows.{Filled, filled-turn}
+use Rattle.hierarchy.proofs.Sweeps.{finish-start, finish-row, finish-end}
 use Rattle.hierarchy.proofs.views.finish.Statement.{statement}
 use Rattle.hierarchy.proofs.views.finish.Tie as tie
 
 abbrev Inv-loop : tie.InvT-loop
-Inv-loop table base reach₀ done left now-done₀ rest₀ reach now-done rest = Finishing table base done left reach now-done rest
+Inv-loop live i a down₀ left rest₀ down rest = Filled (λ x v. (z : ℕ) → (z ∈ v) ↔ Derives (tables live i a) x z) left down rest
 
 abbrev μ-loop : tie.MeasureT-loop
-μ-loop table base reach₀ done left now-done₀ rest₀ reach now-done rest = ones rest
+μ-loop live i a down₀ left rest₀ down rest = ones rest
 
 loop-holds : tie.Need-loop-holds Inv-loop μ-loop
 loop-holds c = finish-start (c .pre)
@@ -33,17 +39,17 @@ single-requires c κs = search needs
 closure-requires : tie.Need-closure-requires Inv-loop μ-loop
 closure-requires c κs = search needs
 
-rows-requires : tie.Need-rows-requires Inv-loop μ-loop
-rows-requires c κs = search needs
+closure-requires-2 : tie.Need-closure-requires-2 Inv-loop μ-loop
+closure-requires-2 c κs = search needs
 
-mul-reach : tie.Need-mul-reach Inv-loop μ-loop
-mul-reach c = let l = picked (c .before .before .before .before .x .given .1) (c .before .before .before .before .before .before .lowest .ensures) in omega arith
+common-requires : tie.Need-common-requires Inv-loop μ-loop
+common-requires c κs = search needs
 
-element-write-reach : tie.Need-element-write-reach Inv-loop μ-loop
-element-write-reach c = let l = picked (c .before .before .before .before .x .given .1) (c .before .before .before .before .before .before .lowest .ensures) in omega arith
+mul-down : tie.Need-mul-down Inv-loop μ-loop
+mul-down c = let l = picked (c .before .before .before .before .before .x .given .1) (c .before .before .before .before .before .before .before .lowest .ensures) in omega arith
 
-with-requires : tie.Need-with-requires Inv-loop μ-loop
-with-requires c κs = search needs
+element-write-down : tie.Need-element-write-down Inv-loop μ-loop
+element-write-down c = let l = picked (c .before .before .before .before .before .x .given .1) (c .before .before .before .before .before .before .before .lowest .ensures) in omega arith
 
 without-requires : tie.Need-without-requires Inv-loop μ-loop
 without-requires c κs = search needs
@@ -55,7 +61,7 @@ loop-less : tie.Need-loop-less Inv-loop μ-loop
 loop-less c = taken-less (taken c)
 
 loop-again : tie.Need-loop-again Inv-loop μ-loop
-loop-again c = finish-turn (c .before .before .before .before .single .result) (c .before .before .before .closure .result) (c .before .before .rows .result) (c .before .with .result) (taken c) (c .before .before .before .before .before .before .before .before .before .loop .inv) (c .before .before .before .before .single .ensures) (c .before .before .before .closure .ensures) (c .before .before .rows .ensures) (c .before .with .ensures)
+loop-again c = filled-turn (c .before .common .result) (taken c) (c .before .before .before .before .before .before .before .before .before .loop .inv) (finish-row (c .before .before .before .before .single .result) (c .before .before .before .closure .result) (c .before .before .closure2 .result) (c .before .common .result) (taken c .lowest .role) (c .before .before .before .before .before .before .before .before .before .before .pre .part _ (c .before .before .before .before .before .before .before .before .before .loop .inv .part _ (taken c .lowest .member))) (c .before .before .before .before .single .ensures) (c .before .before .before .closure .ensures) (c .before .before .closure2 .ensures) (c .before .common .ensures))
 
 pub finish-spec : {M : Type 1} → statement M
 finish-spec =
@@ -70,10 +76,10 @@ finish-spec =
     returns
     single-requires
     closure-requires
-    rows-requires
-    mul-reach
-    element-write-reach
-    with-requires
+    closure-requires-2
+    common-requires
+    mul-down
+    element-write-down
     without-requires
     loop-less
     loop-again)

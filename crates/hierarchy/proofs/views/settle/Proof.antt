@@ -1,5 +1,5 @@
-use Rattle.hierarchy.proofs.Spreads.{settled-is}
 use borrow.Author.Needs.{needs}
+use Rattle.hierarchy.proofs.Sweeps.{settled-is}
 use Rattle.hierarchy.proofs.views.settle.Statement.{statement}
 use Rattle.hierarchy.proofs.views.settle.Tie as tie
 
@@ -12,12 +12,6 @@ element-copy-out-rows c = search needs
 rows-requires : tie.Need-rows-requires
 rows-requires c κs = search needs
 
-mul-union : tie.Need-mul-union
-mul-union c = search needs
-
-element-copy-out-union : tie.Need-element-copy-out-union
-element-copy-out-union c = search needs
-
 union-requires : tie.Need-union-requires
 union-requires c κs = search needs
 
@@ -28,7 +22,7 @@ element-write-reach : tie.Need-element-write-reach
 element-write-reach c = search needs
 
 returns : tie.Need-returns
-returns c = settled-is (c .before .before .rows .result) (c .union .result) (c .before .before .before .before .before .pre .0) (c .before .before .before .before .before .pre .1) (c .before .before .rows .ensures) (c .union .ensures)
+returns c = settled-is (c .before .rows .result) (c .union .result) (c .before .before .before .before .pre .0) (c .before .before .before .before .pre .1) (c .before .rows .ensures) (c .union .ensures)
 
 pub settle-spec : {M : Type 1} → statement M
 settle-spec =
@@ -37,8 +31,6 @@ settle-spec =
     mul-rows
     element-copy-out-rows
     rows-requires
-    mul-union
-    element-copy-out-union
     union-requires
     mul-reach
     element-write-reach

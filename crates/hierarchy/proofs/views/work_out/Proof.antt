@@ -1,28 +1,37 @@
 use Prim.Native.Nat.{ℕ}
+use mathlib.Core.Path.{sym, subst}
+use mathlib.Core.List.{List}
 use native.Mathlib.Omega.{arith}
-use lib.ListN.{getD}
-use mir.Syntax.{w64}
-use mir.Val.{Fits}
-use Rattle.sets.proofs.Laws.{bit-lt}
+use lib.ListN.{replicate}
+use Rattle.hierarchy.specs.Engine.{Right}
 use Rattle.hierarchy.proofs.Rows.{views-are}
+use Rattle.hierarchy.proofs.Sweeps.{right-start, finishing, order-is}
 use borrow.Author.Needs.{needs}
 use Rattle.hierarchy.proofs.views.work_out.Statement.{statement}
 use Rattle.hierarchy.proofs.views.work_out.Tie as tie
 
-downs-requires : tie.Need-downs-requires
-downs-requires c κs = (λ x y e. bit-lt 64 (omega (arith, fits-i x)) e, λ x y e. bit-lt 64 (omega (arith, fits-a x)) e)
-  where
-    fits-i : (x : ℕ) → Fits w64 (getD (c .before .before .args .t2) x 0)
-    fits-i x = search needs
+blank-requires : tie.Need-blank-requires
+blank-requires c κs = search needs
 
-    fits-a : (x : ℕ) → Fits w64 (getD (c .before .before .args .t3) x 0)
-    fits-a x = search needs
+order-requires : tie.Need-order-requires
+order-requires c κs = subst (λ (t : List ℕ). Right (c .before .before .before .before .args .i .now) (c .before .before .before .before .args .a .now) (replicate 64 0) t 0) (sym (c .before .before .blank .ensures)) (right-start _ _)
 
-ups-requires : tie.Need-ups-requires
-ups-requires c κs = search needs
+minus-requires : tie.Need-minus-requires
+minus-requires c κs = search needs
+
+finish-requires : tie.Need-finish-requires
+finish-requires c κs = finishing (c .before .minus .result) (c .before .before .order .ensures) (c .before .minus .ensures)
+
+turn-requires : tie.Need-turn-requires
+turn-requires c κs = search needs
 
 returns : tie.Need-returns
-returns c = views-are (c .before .before .downs .ensures) (c .ups .ensures)
+returns c = record {
+  views = views-are (c .before .before .before .finish .ensures) (c .turn .ensures);
+  in-order = order-is (c .before .before .before .before .before .minus .result) (omega (arith, c .before .before .before .before .before .minus .ok)) (c .before .before .before .before .before .before .order .ensures) (c .before .before .before .before .before .minus .ensures);
+}
 
 pub work-out-spec : {M : Type 1} → statement M
-work-out-spec = tie.close (tie.spec downs-requires ups-requires returns)
+work-out-spec =
+    tie.close
+    (tie.spec blank-requires order-requires minus-requires finish-requires turn-requires returns)

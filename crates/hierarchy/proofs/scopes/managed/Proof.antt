@@ -1,10 +1,11 @@
 use borrow.Author.Needs.{needs}
-use native.Mathlib.Omega.{arith}
 use lib.Count.{ones}
+use borrow.Author.Tests.{not-true, not-false}
+use Rattle.sets.proofs.Bools.{false-no}
 use Rattle.sets.proofs.Members.{Taken, picked, nobody, taken-less}
 use Rattle.hierarchy.proofs.Managing.{Managing-so-far, managed-start, managed-turn, managed-end, unmanaged}
-use Rattle.hierarchy.proofs.scopes.all_managed.Statement.{statement}
-use Rattle.hierarchy.proofs.scopes.all_managed.Tie as tie
+use Rattle.hierarchy.proofs.scopes.managed.Statement.{statement}
+use Rattle.hierarchy.proofs.scopes.managed.Tie as tie
 
 abbrev Inv-loop : tie.InvT-loop
 Inv-loop live down up rest₀ rest = Managing-so-far live down up rest
@@ -30,11 +31,11 @@ enum-told c = search needs
 returns : tie.Need-returns Inv-loop μ-loop
 returns c = managed-end (nobody (c .enum-told .given .1) (c .before .before .lowest .ensures)) (c .before .before .before .loop .inv)
 
-administrators-of-requires : tie.Need-administrators-of-requires Inv-loop μ-loop
-administrators-of-requires c κs = picked (c .before .r .given .1) (c .before .before .before .lowest .ensures) .role
+administered-requires : tie.Need-administered-requires Inv-loop μ-loop
+administered-requires c κs = picked (c .before .r .given .1) (c .before .before .before .lowest .ensures) .role
 
 returns-2 : tie.Need-returns-2 Inv-loop μ-loop
-returns-2 c = unmanaged (c .before .administrators-of .result) (picked (c .before .before .before .r .given .1) (c .before .before .before .before .before .lowest .ensures) .member) (c .before .before .before .before .before .before .loop .inv) (c .before .administrators-of .ensures) (c .if1 .taken)
+returns-2 c = unmanaged (picked (c .before .before .before .r .given .1) (c .before .before .before .before .before .lowest .ensures) .member) (c .before .before .before .before .before .before .loop .inv) (λ w. false-no (not-true _ (c .if1 .taken)) (c .before .administered .ensures .1 w))
 
 without-requires-2 : tie.Need-without-requires-2 Inv-loop μ-loop
 without-requires-2 c κs = search needs
@@ -46,10 +47,10 @@ loop-less : tie.Need-loop-less Inv-loop μ-loop
 loop-less c = taken-less (taken c)
 
 loop-again : tie.Need-loop-again Inv-loop μ-loop
-loop-again c = managed-turn (c .before .before .administrators-of .result) (omega (arith, c .before .before .administrators-of .ok)) (taken c) (c .before .before .before .before .before .before .before .loop .inv) (c .before .before .administrators-of .ensures) (c .before .if1 .left)
+loop-again c = managed-turn (taken c) (c .before .before .before .before .before .before .before .loop .inv) (c .before .before .administered .ensures .0 (not-false _ (c .before .if1 .left)))
 
-pub all-managed-spec : {M : Type 1} → statement M
-all-managed-spec =
+pub managed-spec : {M : Type 1} → statement M
+managed-spec =
     tie.close
     (tie.spec
     Inv-loop
@@ -60,7 +61,7 @@ all-managed-spec =
     enum-known-r
     enum-told
     returns
-    administrators-of-requires
+    administered-requires
     returns-2
     without-requires-2
     loop-less

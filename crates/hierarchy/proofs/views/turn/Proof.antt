@@ -1,13 +1,13 @@
-use Prim.Native.Nat.{ℕ}
 use borrow.Author.Needs.{needs}
+use Prim.Native.Nat.{ℕ}
 use mathlib.Core.Path.{sym, subst}
 use mathlib.Core.List.{List}
 use native.Mathlib.Omega.{arith}
 use lib.Count.{ones}
 use Rattle.sets.proofs.Members.{Taken, picked, nobody, taken-less}
 use Rattle.hierarchy.proofs.Rows.{Turning, turning-start, turning-turn, turning-end}
-use Rattle.hierarchy.proofs.views.ups.Statement.{statement}
-use Rattle.hierarchy.proofs.views.ups.Tie as tie
+use Rattle.hierarchy.proofs.views.turn.Statement.{statement}
+use Rattle.hierarchy.proofs.views.turn.Tie as tie
 
 abbrev Inv-loop : tie.InvT-loop
 Inv-loop live down up₀ rest₀ up rest = Turning live down up rest
@@ -19,7 +19,7 @@ blank-requires : tie.Need-blank-requires Inv-loop μ-loop
 blank-requires c κs = search needs
 
 loop-holds : tie.Need-loop-holds Inv-loop μ-loop
-loop-holds c = subst (λ (t : List ℕ). Turning (c .before .args .live) (c .before .args .down .now) t (c .before .args .live)) (sym (c .blank .ensures)) (turning-start (c .before .args .live) (c .before .args .down .now))
+loop-holds c = subst (λ (t : List ℕ). Turning (c .before .before .args .live) (c .before .before .args .down .now) t (c .before .before .args .live)) (sym (c .blank .ensures)) (turning-start (c .before .before .args .live) (c .before .before .args .down .now))
 
 lowest-requires : tie.Need-lowest-requires Inv-loop μ-loop
 lowest-requires c κs = search needs
@@ -54,8 +54,8 @@ loop-less c = taken-less (taken c)
 loop-again : tie.Need-loop-again Inv-loop μ-loop
 loop-again c = turning-turn (taken c) (c .before .before .before .before .before .before .before .before .loop .inv) (c .before .mark .ensures)
 
-pub ups-spec : {M : Type 1} → statement M
-ups-spec =
+pub turn-spec : {M : Type 1} → statement M
+turn-spec =
     tie.close
     (tie.spec
     Inv-loop
