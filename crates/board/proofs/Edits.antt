@@ -3,20 +3,22 @@ use mathlib.Core.Path.{_≡_, refl, sym, ap, _∙_, subst}
 use mathlib.Core.Bool.{Bool, true, false, cond, not, _&&_, _||_, and-true, and-false, or-true, or-false, or-assoc, and-comm}
 use mathlib.Core.Logic.{_≢_, ⊎-elim}
 use mathlib.Core.List.{List}
-use Prim.Native.Nat.{ℕ, zero, suc, _^_, _≤_, _<_}
+use Prim.Native.Nat.{ℕ, zero, suc, _+_, _^_, _≤_, _<_}
 use native.Mathlib.Nat.{not-suc-le-zero, le-of-suc-le-suc}
 use native.Mathlib.Omega.{arith}
 use lib.Dec.{eqb, lit<}
 use lib.ListN.{set, length, length-set, List·getD-eq-default}
 use lib.Seq.{getD-set-same, getD-set-other, ext-getD}
 use borrow.Author.Tests.{eqb-true, eqb-false, ne-eqb}
-use Rattle.sets.specs.Sets.{bit, _∈_, _⊆_, same?, digits, setOf, NoRole}
+use Rattle.sets.specs.Sets.{bit, _∈_, _⊆_, same?, setOf, NoRole}
 use Rattle.sets.proofs.Bools.{true-or-false, false-no, lt-or-ge}
 use Rattle.sets.proofs.Digits.{bit-zero}
 use Rattle.sets.proofs.Laws.{same-is, same-out, same-eq, same-self, setOf-fits, bit-setOf, is-setOf, bit-lt}
 use Rattle.sets.proofs.Members.{Taken, taken-part}
 use Rattle.hierarchy.specs.Tables.{row}
+use Rattle.hierarchy.proofs.Rows.{row-set as by-row}
 use Rattle.board.specs.Effects.{hasI, hasA, lives, listOf, pair, entry, tableAfter, after}
+use Rattle.board.specs.Rows.{Whole, RowSet, Entered, Left}
 use Rattle.board.specs.declared.Board.{Board}
 use Rattle.board.specs.declared.Command.{Command}
 
@@ -38,6 +40,12 @@ row-set t x s z y h l = ⊎-elim
     (λ e. rw (getD-set-other t x z s 0 (λ (q : z ≡ x). false-no (ap (same? x) (sym q) ∙ e) (same-self x l))) (sym (cond-false (bit s y) (bit (row t z) y) e)))
     (true-or-false (same? x z))
 
+pub whole-set : {t : List ℕ} (x s : ℕ) → x < 64 → s < 2 ^ 64 → Whole t → Whole (set t x s)
+whole-set {t} x s l f whole = record {
+  rows = length-set t x s ∙ whole .rows;
+  fits = λ z. by-row t x s z (omega (arith, whole .rows)) (λ r. r < 2 ^ 64) (λ _. f) (λ _. whole .fits z);
+}
+
 pub row-past : (t : List ℕ) (x s z y : ℕ) → 64 ≤ x → bit (row t z) y ≡ cond (same? x z) (bit s y) (bit (row t z) y)
 row-past t x s z y g = sym (cond-false (bit s y) (bit (row t z) y) (same-out x z g))
 
@@ -52,7 +60,7 @@ put-out o false p e = and-true o
 -- ---- the rows of some seniors: rest are those still to do
 
 pub record Entering (t : List ℕ) (seniors junior : ℕ) (part : Bool) (n : List ℕ) (rest : ℕ) : Type 0 where
-  pub rows : length n ≡ 64
+  pub whole : Whole n
   pub few : rest ⊆ seniors
   pub entries : (x y : ℕ) → bit (row n x) y ≡ cond ((bit seniors x && not (bit rest x)) && same? junior y) part (bit (row t x) y)
 
@@ -66,17 +74,17 @@ one-more : (e s r m p o : Bool) → (e ≡ true → s ≡ true) → (e ≡ true 
 one-more true s r m p o f g = rw (f refl, g refl)
 one-more false s r m p o f g = rw and-true
 
-pub entering-start : (t : List ℕ) (seniors junior : ℕ) (part : Bool) → length t ≡ 64 → Entering t seniors junior part t seniors
-entering-start t seniors junior part h = record { rows = h; few = λ x e. e; entries = λ x y. none-yet (bit seniors x) (same? junior y) part (bit (row t x) y) }
+pub entering-start : (t : List ℕ) (seniors junior : ℕ) (part : Bool) → Whole t → Entering t seniors junior part t seniors
+entering-start t seniors junior part h = record { whole = h; few = λ x e. e; entries = λ x y. none-yet (bit seniors x) (same? junior y) part (bit (row t x) y) }
 
 pub entering-turn : {t n : List ℕ} {seniors junior rest x rest′ : ℕ} {part : Bool} (w : ℕ)
-    → Entering t seniors junior part n rest → Taken rest x rest′ → ((y : ℕ) → bit w y ≡ cond (same? junior y) part (bit (row n x) y))
+    → w < 2 ^ 64 → Entering t seniors junior part n rest → Taken rest x rest′ → ((y : ℕ) → bit w y ≡ cond (same? junior y) part (bit (row n x) y))
     → Entering t seniors junior part (set n x w) rest′
-entering-turn {t} {n} {seniors} {junior} {rest} {x} {rest′} {part} w inv taken is = record {
-  rows = length-set n x w ∙ inv .rows;
+entering-turn {t} {n} {seniors} {junior} {rest} {x} {rest′} {part} w fits inv taken is = record {
+  whole = whole-set x w (taken .lowest .role) fits (inv .whole);
   few = λ z e. inv .few z (taken-part taken z e);
   entries = λ z y.
-      row-set n x w z y (inv .rows) (taken .lowest .role)
+      row-set n x w z y (inv .whole .rows) (taken .lowest .role)
       ∙ cond-when (same? x z) (bit w y) (cond (same? junior y) part (bit (row n z) y)) (bit (row n z) y)
       (λ e. is y ∙ ap (λ (k : ℕ). cond (same? junior y) part (bit (row n k) y)) (sym (same-eq x z e)))
       ∙ rw (inv .entries z y, taken .rest-is z)
@@ -85,9 +93,33 @@ entering-turn {t} {n} {seniors} {junior} {rest} {x} {rest′} {part} w inv taken
       (λ e. rw (same-eq x z e) (taken .lowest .member)));
 }
 
-pub entering-end : {t n : List ℕ} {seniors junior rest : ℕ} {part : Bool} → NoRole rest → Entering t seniors junior part n rest
-    → (x y : ℕ) → bit (row n x) y ≡ cond (bit seniors x && same? junior y) part (bit (row t x) y)
-entering-end none inv x y = inv .entries x y ∙ rw (none .none x, and-true)
+pub entering-end : {t n : List ℕ} {seniors junior rest : ℕ} {part : Bool} → NoRole rest → Entering t seniors junior part n rest → Entered t seniors junior part n
+entering-end none inv = record { whole = inv .whole; entries = λ x y. inv .entries x y ∙ rw (none .none x, and-true) }
+
+-- ---- every row without a junior: the rows below x are done
+
+pub record Leaving (t : List ℕ) (junior : ℕ) (n : List ℕ) (x : ℕ) : Type 0 where
+  pub whole : Whole n
+  pub done : (z y : ℕ) → z < x → bit (row n z) y ≡ (bit (row t z) y && not (same? junior y))
+  pub left : (z : ℕ) → x ≤ z → row n z ≡ row t z
+
+pub leaving-start : {t : List ℕ} (junior : ℕ) → Whole t → Leaving t junior t 0
+leaving-start junior whole = record { whole = whole; done = λ z y l. absurd (not-suc-le-zero l); left = λ z g. refl }
+
+pub leaving-turn : {t n : List ℕ} {junior x : ℕ} (w : ℕ) → w < 2 ^ 64 → x < 64 → Leaving t junior n x
+    → ((y : ℕ) → bit w y ≡ (bit (row n x) y && not (same? junior y))) → Leaving t junior (set n x w) (x + 1)
+leaving-turn {t} {n} {junior} {x} w fits l inv is =
+    let k : x < length n = omega (arith, inv .whole .rows) in
+    record {
+      whole = whole-set x w l fits (inv .whole);
+      done = λ z y m. by-row n x w z k (λ r. bit r y ≡ (bit (row t z) y && not (same? junior y)))
+          (λ e. rw e (is y ∙ ap (λ (r : ℕ). bit r y && not (same? junior y)) (inv .left x (omega arith))))
+          (λ d. inv .done z y (omega arith));
+      left = λ z m. by-row n x w z k (λ r. r ≡ row t z) (λ e. absurd (omega arith)) (λ d. inv .left z (omega arith));
+    }
+
+pub leaving-end : {t n : List ℕ} {junior x : ℕ} → 64 ≤ x → Leaving t junior n x → Left t junior n
+leaving-end g inv = record { whole = inv .whole; entries = λ z y l. inv .done z y (omega arith) }
 
 -- ---- a table known by its entries
 
@@ -101,10 +133,6 @@ unfolding listOf
 listOf-row zero f x l = absurd (not-suc-le-zero l)
 listOf-row (suc n) f zero l = refl
 listOf-row (suc n) f (suc x) l = listOf-row n (λ k. f (suc k)) x (le-of-suc-le-suc l)
-
--- r is t after the command, entry by entry
-pub record Entries (c : Command) (s j : ℕ) (p : Bool) (t r : List ℕ) : Type 0 where
-  pub entries : (x y : ℕ) → x < 64 → y < 64 → bit (row r x) y ≡ entry c s j p (bit (row t x) y) x y
 
 module _ (c : Command) (s j : ℕ) (p : Bool) (t : List ℕ) where
   pub table-length : length (tableAfter c s j p t) ≡ 64
@@ -132,16 +160,13 @@ module _ (c : Command) (s j : ℕ) (p : Bool) (t : List ℕ) where
       let m : y < 64 = bit-lt 64 (table-fits x) e in
       (l, m, sym (table-entry x y l m) ∙ e)
 
-  pub table-is : (r : List ℕ) → length r ≡ 64 → ((x : ℕ) → row r x < 2 ^ 64) → Entries c s j p t r → r ≡ tableAfter c s j p t
-  table-is r h f e =
-      ext-getD 0 r (tableAfter c s j p t) (h ∙ sym table-length)
-      (λ x l. is-setOf (row r x) _ (f x) (λ y m. e .entries x y (omega arith) m) ∙ sym (row-is x (omega arith)))
+  -- a whole table is the one after the command where each entry is
+  table-is : (r : List ℕ) → Whole r → ((x y : ℕ) → x < 64 → y < 64 → bit (row r x) y ≡ entry c s j p (bit (row t x) y) x y) → r ≡ tableAfter c s j p t
+  table-is r whole e =
+      ext-getD 0 r (tableAfter c s j p t) (whole .rows ∙ sym table-length)
+      (λ x l. let m : x < 64 = omega (arith, whole .rows) in is-setOf (row r x) _ (whole .fits x) (λ y k. e x y m k) ∙ sym (row-is x m))
 
 -- ---- by code: what each line of the effects says of an entry
-
-bit-every : (x : ℕ) → x < 64 → bit 0xffff_ffff_ffff_ffff x ≡ true
-unfolding setOf digits
-bit-every x l = bit-setOf (λ _. true) x l
 
 -- below 64 the test for a role is the test for a number
 is-role : (r x : ℕ) → x < 64 → same? r x ≡ eqb x r
@@ -189,76 +214,62 @@ grow true q j o = or-assoc o q j
 grow false q j o = rw (or-false q)
 
 -- the role's own row is emptied
-shrink : (e m o : Bool) → cond e false (cond m false o) ≡ (o && not (e || m))
+shrink : (e m o : Bool) → cond e false (o && not m) ≡ (o && not (e || m))
 shrink true m o = sym (and-false o)
-shrink false m o = sym (put-out o m false refl)
-
--- what `entered` and `with_row` promise of their tables
-abbrev pub HasEntered : List ℕ → ℕ → ℕ → Bool → List ℕ → Type 0
-HasEntered t s j p r = (x y : ℕ) → bit (row r x) y ≡ cond (bit s x && same? j y) p (bit (row t x) y)
-
-abbrev pub HasRow : List ℕ → ℕ → ℕ → List ℕ → Type 0
-HasRow t x s r = (z y : ℕ) → bit (row r z) y ≡ cond (same? x z) (bit s y) (bit (row t z) y)
+shrink false m o = refl
 
 module _ (c : Command) (s j : ℕ) (p : Bool) (t : List ℕ) where
-  pub adds : c .code ≡ 1 → (n r : List ℕ) (w : ℕ) → HasEntered t s (c .role) true n → ((y : ℕ) → bit w y ≡ (bit (row n (c .role)) y || bit j y))
-      → HasRow n (c .role) w r → Entries c s j p t r
-  adds e n r w hn hw hr = record {
-    entries = λ x y l m.
-        let o = bit (row t x) y in
-        let q = eqb y (c .role) && bit s x in
-        let old : bit (row n x) y ≡ (o || q) =
-        hn x y ∙ sym (put-in o (bit s x && same? (c .role) y) true refl) ∙ rw (is-role (c .role) y m, and-comm (bit s x) (eqb y (c .role))) in
-        hr x y
-        ∙ cond-when (same? (c .role) x) (bit w y) (bit (row n x) y || bit j y) (bit (row n x) y)
-        (λ d. hw y ∙ ap (λ (k : ℕ). bit (row n k) y || bit j y) (sym (same-eq (c .role) x d)))
-        ∙ rw (old, is-role (c .role) x l) (grow (eqb x (c .role)) q (bit j y) o)
-        ∙ sym (entry-1 c s j p o x y e);
-  }
+  pub adds : c .code ≡ 1 → (n r : List ℕ) (w : ℕ) → Entered t s (c .role) true n → ((y : ℕ) → bit w y ≡ (bit (row n (c .role)) y || bit j y))
+      → RowSet n (c .role) w r → r ≡ tableAfter c s j p t
+  adds e n r w hn hw hr = table-is c s j p t r (hr .whole)
+      (λ x y l m.
+      let o = bit (row t x) y in
+      let q = eqb y (c .role) && bit s x in
+      let old : bit (row n x) y ≡ (o || q) =
+      hn .entries x y ∙ sym (put-in o (bit s x && same? (c .role) y) true refl) ∙ rw (is-role (c .role) y m, and-comm (bit s x) (eqb y (c .role))) in
+      hr .entries x y
+      ∙ cond-when (same? (c .role) x) (bit w y) (bit (row n x) y || bit j y) (bit (row n x) y)
+      (λ d. hw y ∙ ap (λ (k : ℕ). bit (row n k) y || bit j y) (sym (same-eq (c .role) x d)))
+      ∙ rw (old, is-role (c .role) x l) (grow (eqb x (c .role)) q (bit j y) o)
+      ∙ sym (entry-1 c s j p o x y e))
 
-  pub removes : c .code ≡ 2 → (n r : List ℕ) → HasEntered t 0xffff_ffff_ffff_ffff (c .role) false n → HasRow n (c .role) 0 r → Entries c s j p t r
-  removes e n r hn hr = record {
-    entries = λ x y l m.
-        hr x y
-        ∙ rw (hn x y, bit-zero y, bit-every x l, is-role (c .role) x l, is-role (c .role) y m) (shrink (eqb x (c .role)) (eqb y (c .role)) (bit (row t x) y))
-        ∙ sym (entry-2 c s j p (bit (row t x) y) x y e);
-  }
+  pub removes : c .code ≡ 2 → (n r : List ℕ) → Left t (c .role) n → RowSet n (c .role) 0 r → r ≡ tableAfter c s j p t
+  removes e n r hn hr = table-is c s j p t r (hr .whole)
+      (λ x y l m.
+      hr .entries x y
+      ∙ rw (hn .entries x y l, bit-zero y, is-role (c .role) x l, is-role (c .role) y m) (shrink (eqb x (c .role)) (eqb y (c .role)) (bit (row t x) y))
+      ∙ sym (entry-2 c s j p (bit (row t x) y) x y e))
 
   module _ (k : ℕ) (single : (x : ℕ) → bit k x ≡ same? (c .role) x) where
-    paired : (q : Bool) (r : List ℕ) → HasEntered t k (c .junior) q r → (x y : ℕ) → x < 64 → y < 64 → bit (row r x) y ≡ cond (pair c x y) q (bit (row t x) y)
-    paired q r h x y l m = h x y ∙ rw (single x, is-role (c .role) x l, is-role (c .junior) y m)
+    paired : (q : Bool) (r : List ℕ) → Entered t k (c .junior) q r → (x y : ℕ) → x < 64 → y < 64 → bit (row r x) y ≡ cond (pair c x y) q (bit (row t x) y)
+    paired q r h x y l m = h .entries x y ∙ rw (single x, is-role (c .role) x l, is-role (c .junior) y m)
 
-    pub links : c .code ≡ 3 → p ≡ true → (r : List ℕ) → HasEntered t k (c .junior) true r → Entries c s j p t r
-    links e d r h = record {
-      entries = λ x y l m.
-          let o = bit (row t x) y in
-          paired true r h x y l m
-          ∙ sym (put-in o (pair c x y) true refl)
-          ∙ (rw (d, and-true (pair c x y)))
-          ∙ sym (entry-3 c s j p o x y e);
-    }
-
-    pub unlinks : c .code ≡ 4 → (r : List ℕ) → HasEntered t k (c .junior) false r → Entries c s j p t r
-    unlinks e r h = record {
-      entries = λ x y l m.
-          let o = bit (row t x) y in
-          paired false r h x y l m ∙ sym (put-out o (pair c x y) false refl) ∙ sym (entry-4 c s j p o x y e);
-    }
-
-    pub changes : c .code ≡ 5 → (r : List ℕ) → HasEntered t k (c .junior) p r → Entries c s j p t r
-    changes e r h = record {
-      entries = λ x y l m. paired p r h x y l m ∙ sym (entry-5 c s j p (bit (row t x) y) x y e);
-    }
-
-  pub keeps : c .code ≢ 1 → c .code ≢ 2 → (c .code ≡ 3 → p ≡ false) → c .code ≢ 4 → c .code ≢ 5 → Entries c s j p t t
-  keeps e1 e2 e3 e4 e5 = record {
-    entries = λ x y l m.
+    pub links : c .code ≡ 3 → p ≡ true → (r : List ℕ) → Entered t k (c .junior) true r → r ≡ tableAfter c s j p t
+    links e d r h = table-is c s j p t r (h .whole)
+        (λ x y l m.
         let o = bit (row t x) y in
-        ⊎-elim
-        (λ e. sym (entry-3 c s j p o x y (eqb-true (c .code) 3 e) ∙ rw (e3 (eqb-true (c .code) 3 e), and-false (pair c x y), or-false o)))
-        (λ e. sym (entry-else c s j p o x y e1 e2 (eqb-false (c .code) 3 e) e4 e5))
-        (true-or-false (eqb (c .code) 3));
-  }
+        paired true r h x y l m
+        ∙ sym (put-in o (pair c x y) true refl)
+        ∙ (rw (d, and-true (pair c x y)))
+        ∙ sym (entry-3 c s j p o x y e))
+
+    pub unlinks : c .code ≡ 4 → (r : List ℕ) → Entered t k (c .junior) false r → r ≡ tableAfter c s j p t
+    unlinks e r h = table-is c s j p t r (h .whole)
+        (λ x y l m.
+        let o = bit (row t x) y in
+        paired false r h x y l m ∙ sym (put-out o (pair c x y) false refl) ∙ sym (entry-4 c s j p o x y e))
+
+    pub changes : c .code ≡ 5 → (r : List ℕ) → Entered t k (c .junior) p r → r ≡ tableAfter c s j p t
+    changes e r h = table-is c s j p t r (h .whole) (λ x y l m. paired p r h x y l m ∙ sym (entry-5 c s j p (bit (row t x) y) x y e))
+
+  pub keeps : c .code ≢ 1 → c .code ≢ 2 → (c .code ≡ 3 → p ≡ false) → c .code ≢ 4 → c .code ≢ 5 → Whole t → t ≡ tableAfter c s j p t
+  keeps e1 e2 e3 e4 e5 whole = table-is c s j p t t whole
+      (λ x y l m.
+      let o = bit (row t x) y in
+      ⊎-elim
+      (λ e. sym (entry-3 c s j p o x y (eqb-true (c .code) 3 e) ∙ rw (e3 (eqb-true (c .code) 3 e), and-false (pair c x y), or-false o)))
+      (λ e. sym (entry-else c s j p o x y e1 e2 (eqb-false (c .code) 3 e) e4 e5))
+      (true-or-false (eqb (c .code) 3)))
 
 -- ---- the live roles, and the whole board
 

@@ -4,3 +4,4 @@ pub mod Effects
 pub mod Commands
 pub mod Questions
 pub mod Looks
+pub mod Rows

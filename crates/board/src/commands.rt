@@ -109,10 +109,8 @@ fn missing(live: u64, c: Command) -> bool
 fn linked(b: Board, c: Command) -> bool
     ensures { λ r. ⌜ r ≡ (bit (row (b .i) (c .role)) (c .junior) || bit (row (b .a) (c .role)) (c .junior)) ⌝ }
 {
-    let i = b.i;
-    let a = b.a;
     let senior = c.role as usize;
-    let both = union(row_of(i, senior), row_of(a, senior));
+    let both = union(row_of(&b.i, senior), row_of(&b.a, senior));
     has(both, c.junior as usize)
 }
 

@@ -5,44 +5,50 @@ ghost use mathlib.Core.Bool.{_||_};
 ghost use lib.Dec.{eqb};
 ghost use Rattle.sets.specs.Sets.{bit, setOf};
 ghost use Rattle.board.specs.Effects.{lives, tableAfter, after};
+ghost use Rattle.board.specs.Rows.{Whole};
 use crate::Board;
 use crate::Command;
-use crate::tables::entered;
+use crate::tables::enter;
+use crate::tables::leave;
 use crate::tables::row_of;
-use crate::tables::with_row;
+use crate::tables::set_row;
 use sets::single;
 use sets::union;
 use sets::with;
 use sets::without;
 
-const EVERY: u64 = 0xffff_ffff_ffff_ffff;
-
-// One table afterwards: `seniors` and `juniors` are the sets that command 1 names for it, `part` whether the kind has its part.
-fn edited(t: [u64; 64], c: Command, seniors: u64, juniors: u64, part: bool) -> [u64; 64]
-    ensures { λ r. ⌜ r ≡ tableAfter c seniors juniors part t ⌝ }
+// What the command does to one table: `seniors` and `juniors` are the sets that command 1 names for it, `part` whether the kind has
+// its part.
+fn edit(t: &mut [u64; 64], c: Command, seniors: u64, juniors: u64, part: bool)
+    requires { ⌜ Whole (now t) ⌝ }
+    ensures { λ _. ⌜ now (t .exit) ≡ tableAfter c seniors juniors part (now (t .entry)) ⌝ }
 {
     let code = c.code;
     let role = c.role as usize;
     let junior = c.junior as usize;
     let senior = single(role);
     if code == 1 {
-        let n = entered(t, seniors, role, true);
-        return with_row(n, role, union(row_of(n, role), juniors));
+        enter(t, seniors, role, true);
+        let grown = union(row_of(t, role), juniors);
+        set_row(t, role, grown);
+        return;
     }
     if code == 2 {
-        let n = entered(t, EVERY, role, false);
-        return with_row(n, role, 0);
+        leave(t, role);
+        set_row(t, role, 0);
+        return;
     }
     if code == 3 && part {
-        return entered(t, senior, junior, true);
+        enter(t, senior, junior, true);
+        return;
     }
     if code == 4 {
-        return entered(t, senior, junior, false);
+        enter(t, senior, junior, false);
+        return;
     }
     if code == 5 {
-        return entered(t, senior, junior, part);
+        enter(t, senior, junior, part);
     }
-    t
 }
 
 // The live roles afterwards.
@@ -70,10 +76,21 @@ fn has_part(kind: u8, own: u8) -> bool
 pub fn after(b: Board, c: Command) -> Board
     ensures { λ r. ⌜ r ≡ after b c ⌝ }
 {
-    let old_i = b.i;
-    let old_a = b.a;
-    let live = living(b.live, c);
-    let i = edited(old_i, c, c.i_seniors, c.i_juniors, has_part(c.kind, 1));
-    let a = edited(old_a, c, c.a_seniors, c.a_juniors, has_part(c.kind, 2));
-    Board { live, i, a }
+    let mut next = b;
+    next.live = living(b.live, c);
+    edit(
+        &mut next.i,
+        c,
+        c.i_seniors,
+        c.i_juniors,
+        has_part(c.kind, 1),
+    );
+    edit(
+        &mut next.a,
+        c,
+        c.a_seniors,
+        c.a_juniors,
+        has_part(c.kind, 2),
+    );
+    next
 }

@@ -1,17 +1,20 @@
-// One table of a board by value: its rows, and the entries of one junior.
+// One table of a board, lent: its rows, and the entries of one junior.
 ghost use mathlib.Core.Path.{_≡_};
-ghost use mathlib.Core.Bool.{cond, _&&_};
+ghost use mathlib.Core.Bool.{cond};
 ghost use Prim.Native.Nat.{ℕ};
+ghost use lib.ListN.{length};
 ghost use Rattle.sets.specs.Sets.{bit, same?};
 ghost use Rattle.hierarchy.specs.Tables.{row};
+ghost use Rattle.board.specs.Rows.{Whole, RowSet, Entered, Left};
 use sets::Pick;
 use sets::lowest;
 use sets::with;
 use sets::without;
 
 // Row x of a table; a number above 63 has no junior.
-pub(crate) fn row_of(t: [u64; 64], x: usize) -> u64
-    ensures { λ r. ⌜ r ≡ row t x ⌝ }
+pub(crate) fn row_of(t: &[u64; 64], x: usize) -> u64
+    requires { ⌜ length (now t) ≡ 64 ⌝ }
+    ensures { λ r. ⌜ r ≡ row (now (t .entry)) x ⌝ }
 {
     if x < 64 {
         return t[x];
@@ -19,15 +22,14 @@ pub(crate) fn row_of(t: [u64; 64], x: usize) -> u64
     0
 }
 
-// The table with s as the row of x.
-pub(crate) fn with_row(t: [u64; 64], x: usize, s: u64) -> [u64; 64]
-    ensures { λ r. ⌜ ((z y : ℕ) → bit (row r z) y ≡ cond (same? x z) (bit s y) (bit (row t z) y)) ⌝ }
+// s becomes the row of x.
+pub(crate) fn set_row(t: &mut [u64; 64], x: usize, s: u64)
+    requires { ⌜ Whole (now t) ⌝ }
+    ensures { λ _. ⌜ RowSet (now (t .entry)) x s (now (t .exit)) ⌝ }
 {
-    let mut n = t;
     if x < 64 {
-        n[x] = s;
+        t[x] = s;
     }
-    n
 }
 
 // s with the role r, or without it, as `part` says.
@@ -41,16 +43,28 @@ fn put(s: u64, r: usize, part: bool) -> u64
 }
 
 // The junior goes into the row of each senior, or out of it, as `part` says.
-pub(crate) fn entered(t: [u64; 64], seniors: u64, junior: usize, part: bool) -> [u64; 64]
-    ensures { λ r. ⌜ ((x y : ℕ) → bit (row r x) y ≡ cond (bit seniors x && same? junior y) part (bit (row t x) y)) ⌝ }
+pub(crate) fn enter(t: &mut [u64; 64], seniors: u64, junior: usize, part: bool)
+    requires { ⌜ Whole (now t) ⌝ }
+    ensures { λ _. ⌜ Entered (now (t .entry)) seniors junior part (now (t .exit)) ⌝ }
 {
-    let mut n = t;
     let mut rest = seniors;
     loop {
         let Pick::Role(x) = lowest(rest) else {
-            return n;
+            return;
         };
-        n[x] = put(n[x], junior, part);
+        t[x] = put(t[x], junior, part);
         rest = without(rest, x);
+    }
+}
+
+// The junior goes out of every row.
+pub(crate) fn leave(t: &mut [u64; 64], junior: usize)
+    requires { ⌜ Whole (now t) ⌝ }
+    ensures { λ _. ⌜ Left (now (t .entry)) junior (now (t .exit)) ⌝ }
+{
+    let mut x = 0;
+    while x < 64 {
+        t[x] = without(t[x], junior);
+        x += 1;
     }
 }

@@ -2,7 +2,6 @@ use mathlib.Core.Path.{_∙_, ap₂}
 use mathlib.Core.Bool.{_||_}
 use Prim.Native.Nat.{ℕ}
 use Rattle.sets.specs.Sets.{bit}
-use mathlib.Core.Path.{_∙_}
 use borrow.Author.Needs.{needs}
 use Rattle.board.proofs.commands.linked.Statement.{statement}
 use Rattle.board.proofs.commands.linked.Tie as tie
@@ -27,8 +26,8 @@ has-requires c κs = search needs
 
 returns : tie.Need-returns
 returns c = let u = c .before .before in
-    let j = u .before .before .before .before .before .before .args .c .junior in
-    c .has .ensures ∙ u .union .ensures j ∙ ap₂ (λ (m n : ℕ). bit m j || bit n j) (u .before .before .row-of .ensures) (u .before .row-of2 .ensures)
+    let j = u .before .before .before .before .before .before .before .before .args .c .junior in
+    c .has .ensures ∙ u .union .ensures j ∙ ap₂ (λ (m n : ℕ). bit m j || bit n j) (u .before .before .before .before .row-of .ensures) (u .before .row-of2 .ensures)
 
 pub linked-spec : {M : Type 1} → statement M
 linked-spec =
