@@ -15,10 +15,10 @@ use Rattle.sets.proofs.Bools.{true-or-false, false-no, lt-or-ge}
 use Rattle.sets.proofs.Digits.{bit-zero}
 use Rattle.sets.proofs.Laws.{same-is, same-out, same-eq, same-self, setOf-fits, bit-setOf, is-setOf, bit-lt}
 use Rattle.sets.proofs.Members.{Taken, taken-part}
-use Rattle.hierarchy.specs.Tables.{row}
-use Rattle.hierarchy.proofs.Rows.{row-set as by-row}
+use Rattle.hierarchy.specs.Tables.{row, IsTable}
 use Rattle.board.specs.Effects.{hasI, hasA, lives, listOf, pair, entry, tableAfter, after}
-use Rattle.board.specs.Rows.{Whole, RowSet, Entered, Left}
+use Rattle.hierarchy.proofs.Rows.{row-set as by-row}
+use Rattle.board.specs.Rows.{RowSet, Entered, Left}
 use Rattle.board.specs.declared.Board.{Board}
 use Rattle.board.specs.declared.Command.{Command}
 
@@ -40,7 +40,7 @@ row-set t x s z y h l = ⊎-elim
     (λ e. rw (getD-set-other t x z s 0 (λ (q : z ≡ x). false-no (ap (same? x) (sym q) ∙ e) (same-self x l))) (sym (cond-false (bit s y) (bit (row t z) y) e)))
     (true-or-false (same? x z))
 
-pub whole-set : {t : List ℕ} (x s : ℕ) → x < 64 → s < 2 ^ 64 → Whole t → Whole (set t x s)
+pub whole-set : {t : List ℕ} (x s : ℕ) → x < 64 → s < 2 ^ 64 → IsTable t → IsTable (set t x s)
 whole-set {t} x s l f whole = record {
   rows = length-set t x s ∙ whole .rows;
   fits = λ z. by-row t x s z (omega (arith, whole .rows)) (λ r. r < 2 ^ 64) (λ _. f) (λ _. whole .fits z);
@@ -60,7 +60,7 @@ put-out o false p e = and-true o
 -- ---- the rows of some seniors: rest are those still to do
 
 pub record Entering (t : List ℕ) (seniors junior : ℕ) (part : Bool) (n : List ℕ) (rest : ℕ) : Type 0 where
-  pub whole : Whole n
+  pub whole : IsTable n
   pub few : rest ⊆ seniors
   pub entries : (x y : ℕ) → bit (row n x) y ≡ cond ((bit seniors x && not (bit rest x)) && same? junior y) part (bit (row t x) y)
 
@@ -74,7 +74,7 @@ one-more : (e s r m p o : Bool) → (e ≡ true → s ≡ true) → (e ≡ true 
 one-more true s r m p o f g = rw (f refl, g refl)
 one-more false s r m p o f g = rw and-true
 
-pub entering-start : (t : List ℕ) (seniors junior : ℕ) (part : Bool) → Whole t → Entering t seniors junior part t seniors
+pub entering-start : (t : List ℕ) (seniors junior : ℕ) (part : Bool) → IsTable t → Entering t seniors junior part t seniors
 entering-start t seniors junior part h = record { whole = h; few = λ x e. e; entries = λ x y. none-yet (bit seniors x) (same? junior y) part (bit (row t x) y) }
 
 pub entering-turn : {t n : List ℕ} {seniors junior rest x rest′ : ℕ} {part : Bool} (w : ℕ)
@@ -99,11 +99,11 @@ entering-end none inv = record { whole = inv .whole; entries = λ x y. inv .entr
 -- ---- every row without a junior: the rows below x are done
 
 pub record Leaving (t : List ℕ) (junior : ℕ) (n : List ℕ) (x : ℕ) : Type 0 where
-  pub whole : Whole n
+  pub whole : IsTable n
   pub done : (z y : ℕ) → z < x → bit (row n z) y ≡ (bit (row t z) y && not (same? junior y))
   pub left : (z : ℕ) → x ≤ z → row n z ≡ row t z
 
-pub leaving-start : {t : List ℕ} (junior : ℕ) → Whole t → Leaving t junior t 0
+pub leaving-start : {t : List ℕ} (junior : ℕ) → IsTable t → Leaving t junior t 0
 leaving-start junior whole = record { whole = whole; done = λ z y l. absurd (not-suc-le-zero l); left = λ z g. refl }
 
 pub leaving-turn : {t n : List ℕ} {junior x : ℕ} (w : ℕ) → w < 2 ^ 64 → x < 64 → Leaving t junior n x
@@ -161,7 +161,7 @@ module _ (c : Command) (s j : ℕ) (p : Bool) (t : List ℕ) where
       (l, m, sym (table-entry x y l m) ∙ e)
 
   -- a whole table is the one after the command where each entry is
-  table-is : (r : List ℕ) → Whole r → ((x y : ℕ) → x < 64 → y < 64 → bit (row r x) y ≡ entry c s j p (bit (row t x) y) x y) → r ≡ tableAfter c s j p t
+  table-is : (r : List ℕ) → IsTable r → ((x y : ℕ) → x < 64 → y < 64 → bit (row r x) y ≡ entry c s j p (bit (row t x) y) x y) → r ≡ tableAfter c s j p t
   table-is r whole e =
       ext-getD 0 r (tableAfter c s j p t) (whole .rows ∙ sym table-length)
       (λ x l. let m : x < 64 = omega (arith, whole .rows) in is-setOf (row r x) _ (whole .fits x) (λ y k. e x y m k) ∙ sym (row-is x m))
@@ -262,7 +262,7 @@ module _ (c : Command) (s j : ℕ) (p : Bool) (t : List ℕ) where
     pub changes : c .code ≡ 5 → (r : List ℕ) → Entered t k (c .junior) p r → r ≡ tableAfter c s j p t
     changes e r h = table-is c s j p t r (h .whole) (λ x y l m. paired p r h x y l m ∙ sym (entry-5 c s j p (bit (row t x) y) x y e))
 
-  pub keeps : c .code ≢ 1 → c .code ≢ 2 → (c .code ≡ 3 → p ≡ false) → c .code ≢ 4 → c .code ≢ 5 → Whole t → t ≡ tableAfter c s j p t
+  pub keeps : c .code ≢ 1 → c .code ≢ 2 → (c .code ≡ 3 → p ≡ false) → c .code ≢ 4 → c .code ≢ 5 → IsTable t → t ≡ tableAfter c s j p t
   keeps e1 e2 e3 e4 e5 whole = table-is c s j p t t whole
       (λ x y l m.
       let o = bit (row t x) y in

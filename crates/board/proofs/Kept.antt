@@ -1,5 +1,5 @@
 -- A command that is done leaves a sound board. Assumes nothing.
-use mathlib.Core.Path.{_≡_, refl, sym, _∙_}
+use mathlib.Core.Path.{_≡_, refl, sym, _∙_, subst}
 use mathlib.Core.Bool.{Bool, true, false, cond, not, _&&_, _||_, or-true}
 use mathlib.Core.Logic.{inl, ⊎-elim, _≢_}
 use mathlib.Core.List.{List}
@@ -19,7 +19,7 @@ use Rattle.hierarchy.proofs.Derive.{edge-entry, i-entry, a-entry}
 use Rattle.hierarchy.proofs.Theorems.{no-senior}
 use Rattle.board.specs.Boards.{tablesOf}
 use Rattle.board.specs.Effects.{hasI, hasA, lives, pair, entry, after}
-use Rattle.board.specs.Commands.{asSenior, asJunior, needed, strictly, Malformed, Malformed.no-code, Missing, InScope, refusals}
+use Rattle.board.specs.Commands.{asSenior, asJunior, needed, strictly, Malformed, Malformed.no-code, Missing, InScope, before, refusals}
 use Rattle.board.specs.declared.Board.{Board}
 use Rattle.board.specs.declared.Command.{Command}
 use Rattle.board.proofs.Rules.{stable, first-done}
@@ -149,6 +149,13 @@ joined-after b c joined formed missing x y h =
     (λ u v m. joined u v (a-entry (tablesOf b) u v m)) x y (w .2) in
     (live-after b c x (w .0) (l .0), live-after b c y (w .1) (l .1)))
     (edge-entry (tablesOf (after b c)) x y .0 h)
+
+-- past the refusals on the board before, the board afterwards has its shape, and its entries join live roles
+pub firm-after : (b : Board) (c : Command) (next : Board) (m : ℕ) → next ≡ after b c → m ≡ 0 → First (before b c) m → Shaped (tablesOf next) × Joined (tablesOf next)
+firm-after b c next m is z f =
+    let rows = first-done (before b c) refl (subst (First (before b c)) z f) in
+    let sound = stable (sound-dec (tablesOf b)) (rows .0) in
+    subst (λ (k : Board). Shaped (tablesOf k) × Joined (tablesOf k)) (sym is) (shaped-after b c, joined-after b c (sound .joined) (rows .1 .0) (rows .1 .1 .0))
 
 strictly-removed : (c : Command) (x : ℕ) → c .code ≡ 2 → x ≡ c .role → strictly c x ≡ true
 unfolding strictly

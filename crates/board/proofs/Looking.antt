@@ -1,13 +1,23 @@
 -- What a look at a board is made of. Assumes nothing.
-use mathlib.Core.Path.{_≡_, sym, _∙_}
+use mathlib.Core.Path.{_≡_, refl, sym, _∙_, subst}
 use mathlib.Core.Bool.{Bool, true, false, false≢true}
-use mathlib.Core.Logic.{_↔_, Iff·trans}
-use mathlib.Core.List.{List}
+use mathlib.Core.Logic.{inl, inr, _↔_}
+use mathlib.Core.List.{List, [], _∷_}
 use Prim.Native.Nat.{ℕ}
+use lib.Dec.{eqb}
+use borrow.Author.Tests.{eqb-true, eq-eqb}
+use Rattle.hierarchy.specs.First.{First}
 use Rattle.hierarchy.specs.Tables.{Tables, Live, Shaped}
 use Rattle.hierarchy.specs.Words.{Joined, Loops, Managed, Sound}
-use Rattle.hierarchy.specs.Views.{AreViews, ManagedBy}
+use Rattle.hierarchy.specs.Views.{AreViews, InOrder, WorkedOut, ManagedBy}
+use Rattle.hierarchy.proofs.Decide.{loops-dec, managed-dec}
+use Rattle.hierarchy.proofs.FirstLaws.{first-unique, hit, pass, none}
+use Rattle.hierarchy.proofs.Order.{order-loopless}
 use Rattle.hierarchy.proofs.ViewLaws.{admin-by}
+use Rattle.board.specs.Boards.{tablesOf, troubles}
+use Rattle.board.specs.Looks.{HasViews, Weighed, Seen, Viewed}
+use Rattle.board.specs.declared.Board.{Board}
+use Rattle.board.proofs.Rules.{stable, first-done}
 
 -- ---- a test that decides P, by its answer
 
@@ -28,9 +38,47 @@ managed-by v = (
   λ h r l n. let a = h r l n in (a .0, admin-by v .1 (a .1)),
 )
 
--- where all but the administrators is well, these decide
-pub sound-left : {t : Tables} {down up : List ℕ} → Shaped t → Live t 0 → Joined t → (Loops t → ⊥) → AreViews t down up → ManagedBy (t .live) down up ↔ Sound t
-sound-left shaped root joined loopless v = Iff·trans (managed-by v) (
-  λ m. record { shaped = shaped; joined = joined; loopless = loopless; root = root; managed = m },
-  λ s. s .managed,
-)
+-- ---- trouble
+
+-- where entries join live roles, what is out of order has a loop
+pub looped : {t : Tables} → Shaped t → Joined t → (InOrder t → ⊥) → Loops t
+looped shaped joined n = stable (loops-dec shaped) (λ m. n (order-loopless joined .1 m))
+
+pub troubles-joined : {t : Tables} (n : ℕ) → Shaped t → Joined t → First (troubles t) n → First ((7, Loops t) ∷ (9, (Managed t → ⊥)) ∷ []) n
+unfolding First
+troubles-joined n shaped joined (inl p) = inl (looped shaped joined (p .0), p .1)
+troubles-joined n shaped joined (inr p) = inr (λ l. p .0 (λ o. order-loopless joined .0 o l), p .1)
+
+module _ {t : Tables} {down up : List ℕ} {order : Bool} (w : WorkedOut t down up order) where
+  pub has-views : HasViews t down up
+  has-views = record { views = w .views; down-rows = w .down-rows; up-rows = w .up-rows }
+
+  pub weighed-7 : order ≡ false → Weighed t 7 down up
+  weighed-7 e = record { numbered = hit _ _ _ (fails (w .in-order) e); seen = has-views }
+
+  module _ (e : order ≡ true) {m : Bool} (managed : (m ≡ true) ↔ ManagedBy (t .live) down up) where
+    pub weighed-0 : m ≡ true → Weighed t 0 down up
+    weighed-0 h = record { numbered = pass _ _ _ _ (λ n. n (holds (w .in-order) e)) (pass _ _ _ _ (λ n. n (managed-by (w .views) .0 (holds managed h))) none); seen = has-views }
+
+    pub weighed-9 : m ≡ false → Weighed t 9 down up
+    weighed-9 h = record { numbered = pass _ _ _ _ (λ n. n (holds (w .in-order) e)) (hit _ _ _ (λ k. fails managed h (managed-by (w .views) .1 k))); seen = has-views }
+
+-- where all else is well, trouble decides
+pub look-is : {t : Tables} {n : ℕ} {down up : List ℕ} → Shaped t → Live t 0 → Joined t → Weighed t n down up → Seen t (eqb n 0) down up
+look-is {t} {n} shaped root joined w = record { sound-is = (λ e. sound (eqb-true n 0 e), λ s. eq-eqb n 0 (first-unique (troubles t) n 0 (w .numbered) (fine s))); seen = λ _. w .seen }
+  where
+    sound : n ≡ 0 → Sound t
+    sound z =
+        let p = first-done _ refl (troubles-joined 0 shaped joined (subst (First (troubles t)) z (w .numbered))) in
+        record { shaped = shaped; joined = joined; loopless = p .0; root = root; managed = stable (managed-dec shaped) (p .1 .0) }
+
+    fine : Sound t → First (troubles t) 0
+    fine s = pass _ _ _ _ (λ k. k (order-loopless joined .1 (s .loopless))) (pass _ _ _ _ (λ k. k (s .managed)) none)
+
+-- a look that finds nothing sound
+pub unseen : {t : Tables} {down up : List ℕ} → (Sound t → ⊥) → Seen t false down up
+unseen n = record { sound-is = never n; seen = λ e. absurd (false≢true e) }
+
+-- a sound board has been viewed
+pub viewed : {b : Board} {r : Bool} {down up : List ℕ} → Seen (tablesOf b) r down up → r ≡ true → Viewed b down up
+viewed s e = record { sound = s .sound-is .0 e; seen = s .seen e }

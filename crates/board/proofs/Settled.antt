@@ -20,7 +20,7 @@ use Rattle.board.specs.declared.Board.{Board}
 use Rattle.board.specs.declared.Command.{Command}
 use Rattle.board.specs.declared.questions.Manager.{Manager}
 use Rattle.board.specs.declared.questions.Manager.the-variants.{Role, Nobody}
-use Rattle.board.proofs.Asking.{asked}
+use Rattle.board.proofs.Asking.{asked-sound}
 
 -- two tests of one fact
 pub test-unique : {P : Type 0} {p q : Bool} → (p ≡ true) ↔ P → (q ≡ true) ↔ P → p ≡ q
@@ -65,7 +65,7 @@ pub manager-answer-unique : {b : Board} {r m n : ℕ} {x y : Manager} → Manage
 manager-answer-unique {b = b} {r = r} {m = m} {n = n} {x = x} {y = y} d e =
     let k = first-unique _ m n (d .numbered) (e .numbered) in (
       k,
-      by-number m (λ z. manages-unique r (asked b r r m (d .numbered) z .sound) x y (d .done z) (e .done (sym k ∙ z)))
+      by-number m (λ z. manages-unique r (asked-sound b r r m (d .numbered) z) x y (d .done z) (e .done (sym k ∙ z)))
           (λ z. d .refused z ∙ sym (e .refused (λ w. z (k ∙ w)))),
     )
 
@@ -73,6 +73,6 @@ pub steps-unique : {b : Board} {r m n j k : ℕ} → StepsAnswer b r m j → Ste
 steps-unique {b = b} {r = r} {m = m} {n = n} d e =
     let w = first-unique _ m n (d .numbered) (e .numbered) in (
       w,
-      by-number m (λ z. climb-unique (asked b r r m (d .numbered) z .sound) (d .done z) (e .done (sym w ∙ z)))
+      by-number m (λ z. climb-unique (asked-sound b r r m (d .numbered) z) (d .done z) (e .done (sym w ∙ z)))
           (λ z. d .refused z ∙ sym (e .refused (λ v. z (w ∙ v)))),
     )

@@ -60,7 +60,7 @@ module _ (c : Command) (formed : Malformed c → ⊥) where
   actor-lt : c .actor < 64
   actor-lt = ⊎-elim (λ l. l) (λ g. absurd (formed (no-actor g))) (lt-or-ge (c .actor) 64)
 
-  role-lt : c .role < 64
+  pub role-lt : c .role < 64
   role-lt = ⊎-elim (λ l. l) (λ g. absurd (formed (no-role g))) (lt-or-ge (c .role) 64)
 
   junior-lt : 3 ≤ c .code → c .junior < 64
@@ -251,6 +251,9 @@ module _ (b : Board) (c : Command) (sound : Sound (tablesOf b)) where
 module _ (b : Board) (c : Command) where
   pub decided-early : (n : ℕ) → n ≢ 0 → First (before b c) n → Decided b c n b
   decided-early n h f = record { numbered = first-refused (before b c) _ n h f; done = λ z. absurd (h z); refused = λ _. refl }
+
+  pub decided-unsound : (Sound (tablesOf b) → ⊥) → Decided b c 1 b
+  decided-unsound n = decided-early 1 (λ z. omega (arith, z)) (refused-1 b c n)
 
   module _ (m : ℕ) (early : m ≡ 0) (passed : First (before b c) m) (next : Board) (is : next ≡ after b c) where
     late : (n : ℕ) → First (afterwards next c) n → First (refusals b c) n

@@ -2,8 +2,9 @@
 use mathlib.Core.List.{List, [], _∷_}
 use Prim.Native.Nat.{ℕ}
 use lib.ListN.{replicate}
-use Rattle.hierarchy.specs.Words.{Loops, Managed}
+use Rattle.hierarchy.specs.Words.{Managed}
 use Rattle.hierarchy.specs.Tables.{Tables, tables}
+use Rattle.hierarchy.specs.Views.{InOrder}
 use Rattle.board.specs.declared.Board.{Board}
 
 -- The one place where the mathematics sees the struct.
@@ -14,6 +15,10 @@ tablesOf b = tables (b .live) (b .i) (b .a)
 unfoldable pub foundingBoard : Board
 foundingBoard = record { live = 1; i = replicate 64 0; a = replicate 64 0 }
 
--- the refusals that a board gives by itself, in the order they are tried: some role reaches itself; some role has no administrator
-abbrev pub troubles : Board → List (ℕ × Type 0)
-troubles b = (7, Loops (tablesOf b)) ∷ (9, (Managed (tablesOf b) → ⊥)) ∷ []
+abbrev pub boardOf : ℕ → List ℕ → List ℕ → Board
+boardOf live i a = record { live = live; i = i; a = a }
+
+-- What tables give by themselves, in the order it is tried: the live roles are not in order; some role has no administrator. Where
+-- entries join live roles, the first is that some role reaches itself (`Rattle.board.proofs.Looking`, `troubles-joined`).
+abbrev pub troubles : Tables → List (ℕ × Type 0)
+troubles t = (7, (InOrder t → ⊥)) ∷ (9, (Managed t → ⊥)) ∷ []

@@ -1,21 +1,40 @@
--- What the functions inside promise each other: a look at a board, and rows 6 and 8 of the refusals read off what was worked out.
+-- What the functions promise each other: a look at a board with its views, and rows 6 and 8 of the refusals read off what was worked out.
 use mathlib.Core.Path.{_≡_}
 use mathlib.Core.Bool.{Bool, true}
 use mathlib.Core.Logic.{_≢_, _↔_}
 use mathlib.Core.List.{List}
 use Prim.Native.Nat.{ℕ}
+use lib.ListN.{length}
 use Rattle.sets.specs.Sets.{_∈_}
+use Rattle.hierarchy.specs.First.{First}
+use Rattle.hierarchy.specs.Tables.{Tables}
 use Rattle.hierarchy.specs.Views.{AreViews, AdminBy}
 use Rattle.hierarchy.specs.Words.{Sound}
-use Rattle.board.specs.Boards.{tablesOf}
+use Rattle.board.specs.Boards.{tablesOf, troubles}
 use Rattle.board.specs.Commands.{scoped, strictly}
 use Rattle.board.specs.declared.Board.{Board}
 use Rattle.board.specs.declared.Command.{Command}
 
--- a look, so that views are worked out once: the two views, and whether the board is sound
-pub record Seen (b : Board) (sound : Bool) (down up : List ℕ) : Type 0 where
-  pub views : AreViews (tablesOf b) down up
-  pub sound-is : (sound ≡ true) ↔ Sound (tablesOf b)
+-- the views of tables, of 64 rows each
+pub record HasViews (t : Tables) (down up : List ℕ) : Type 0 where
+  pub views : AreViews t down up
+  pub down-rows : length down ≡ 64
+  pub up-rows : length up ≡ 64
+
+-- tables weighed: their trouble, and their views
+pub record Weighed (t : Tables) (number : ℕ) (down up : List ℕ) : Type 0 where
+  pub numbered : First (troubles t) number
+  pub seen : HasViews t down up
+
+-- a look at tables: whether they are sound, and where they are, their views
+pub record Seen (t : Tables) (sound : Bool) (down up : List ℕ) : Type 0 where
+  pub sound-is : (sound ≡ true) ↔ Sound t
+  pub seen : sound ≡ true → HasViews t down up
+
+-- A sound board with its views, so that these are worked out once: what a question or a command on views already worked out counts on.
+pub record Viewed (b : Board) (down up : List ℕ) : Type 0 where
+  pub sound : Sound (tablesOf b)
+  pub seen : HasViews (tablesOf b) down up
 
 -- the column "Scope condition before", where `scope` is the scope of the actor
 pub record WithinScope (scope : ℕ) (c : Command) : Type 0 where

@@ -6,7 +6,6 @@ use mathlib.Core.List.{List, [], _∷_}
 use Prim.Native.Nat.{ℕ, _<_}
 use lib.Count.{ones}
 use Rattle.sets.specs.Sets.{_∈_}
-use Rattle.hierarchy.specs.Tables.{Live}
 use Rattle.hierarchy.specs.Words.{Derives, Scope, LineManager, Climb, Sound}
 use Rattle.hierarchy.specs.First.{First}
 use Rattle.board.specs.Boards.{tablesOf}
@@ -15,12 +14,14 @@ use Rattle.board.specs.declared.questions.Manager.{Manager}
 use Rattle.board.specs.declared.questions.Manager.the-variants.{Role, Nobody}
 
 -- the refusals of a question that names the roles x and y (one that names a single role names it twice)
-abbrev pub refusals : Board → ℕ → ℕ → List (ℕ × Type 0)
-refusals b x y =
-    (1, (Sound (tablesOf b) → ⊥))
-    ∷ (2, (63 < x) ⊎ (63 < y))
-    ∷ (3, (Live (tablesOf b) x → ⊥) ⊎ (Live (tablesOf b) y → ⊥))
+abbrev pub misnamed : ℕ → ℕ → ℕ → List (ℕ × Type 0)
+misnamed live x y =
+    (2, (63 < x) ⊎ (63 < y))
+    ∷ (3, (x ∈ live → ⊥) ⊎ (y ∈ live → ⊥))
     ∷ []
+
+abbrev pub refusals : Board → ℕ → ℕ → List (ℕ × Type 0)
+refusals b x y = (1, (Sound (tablesOf b) → ⊥)) ∷ misnamed (b .live) x y
 
 -- does x derive y
 pub record DerivesAnswer (b : Board) (x y number : ℕ) (yes : Bool) : Type 0 where

@@ -2,12 +2,12 @@
 ghost use mathlib.Core.Path.{_≡_};
 ghost use mathlib.Core.Bool.{true};
 ghost use mathlib.Core.Logic.{_↔_};
-ghost use Rattle.hierarchy.specs.First.{First};
+ghost use Rattle.hierarchy.specs.Tables.{tables};
 ghost use Rattle.hierarchy.specs.Words.{Sound};
-ghost use Rattle.board.specs.Boards.{tablesOf, troubles};
+ghost use Rattle.board.specs.Boards.{tablesOf};
+ghost use Rattle.board.specs.Looks.{Weighed};
 use crate::Board;
-use crate::looks::look_at;
-use hierarchy::loops::loops;
+use crate::looks::look;
 use hierarchy::scopes::managed;
 use hierarchy::views::work_out;
 
@@ -15,21 +15,26 @@ use hierarchy::views::work_out;
 pub fn sound(b: Board) -> bool
     ensures { λ r. ⌜ (r ≡ true) ↔ Sound (tablesOf b) ⌝ }
 {
-    let k = look_at(b);
-    k.sound
+    let mut down = [0u64; 64];
+    let mut up = [0u64; 64];
+    look(b.live, &b.i, &b.a, &mut down, &mut up)
 }
 
-// What is wrong with a board whose entries join live roles: 7 where some role reaches itself, 9 where one has no administrator.
-pub fn trouble(b: Board) -> u8
-    ensures { λ r. ⌜ First (troubles b) r ⌝ }
+// What is wrong with tables whose entries join live roles: 7 where some role reaches itself, 9 where one has no administrator. Their
+// views are left in `down` and `up`, whatever was there.
+pub fn trouble<'t>(
+    live: u64,
+    i: &'t [u64; 64],
+    a: &'t [u64; 64],
+    down: &mut [u64; 64],
+    up: &mut [u64; 64],
+) -> u8
+    ensures { λ r. ⌜ Weighed (tables live (now (i .entry)) (now (a .entry))) r (now (down .exit)) (now (up .exit)) ⌝ }
 {
-    let i = b.i;
-    let a = b.a;
-    if loops(i, a) {
+    if !work_out(live, i, a, down, up) {
         return 7;
     }
-    let views = work_out(b.live, i, a);
-    if managed(b.live, views) {
+    if managed(live, down, up) {
         return 0;
     }
     9

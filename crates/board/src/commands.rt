@@ -1,26 +1,26 @@
 // The five commands. `step` decides one: it tries the refusals of document 01 in their order, first on the board it is handed, then
-// on the board the command would leave, and gives back the number and the board, changed where the number is 0.
+// on the board the command would leave, and gives back the number and the board, changed where the number is 0. `decide` is the same
+// for a caller that has just found the board sound and has its views.
 ghost use mathlib.Core.Path.{_≡_};
 ghost use mathlib.Core.Bool.{true, false, not, _&&_, _||_};
 ghost use mathlib.Core.Logic.{_↔_};
 ghost use Prim.Native.Nat.{ℕ};
 ghost use lib.Dec.{eqb, leb};
 ghost use Rattle.sets.specs.Sets.{bit};
+ghost use lib.ListN.{length};
 ghost use Rattle.hierarchy.specs.First.{First};
-ghost use Rattle.hierarchy.specs.Tables.{row};
-ghost use Rattle.board.specs.Looks.{Seen, WithinScope, OutsideBy};
+ghost use Rattle.hierarchy.specs.Tables.{tables, row, Shaped};
+ghost use Rattle.hierarchy.specs.Words.{Joined};
+ghost use Rattle.board.specs.Boards.{boardOf};
+ghost use Rattle.board.specs.Looks.{Viewed, WithinScope, OutsideBy};
 ghost use Rattle.board.specs.Commands.{Malformed, needed, scoped, strictly, before, afterwards, Decided};
 use crate::Board;
 use crate::Command;
 use crate::effects::after;
-use crate::looks::Look;
-use crate::looks::look_at;
-use crate::tables::row_of;
-use hierarchy::loops::loops;
+use crate::looks::look;
 use hierarchy::scopes::administrators;
 use hierarchy::scopes::managed;
 use hierarchy::scopes::scope;
-use hierarchy::views::Views;
 use hierarchy::views::work_out;
 use sets::has;
 use sets::minus;
@@ -106,12 +106,12 @@ fn missing(live: u64, c: Command) -> bool
 }
 
 // Whether the edge of the command stands, in any kind.
-fn linked(b: Board, c: Command) -> bool
-    ensures { λ r. ⌜ r ≡ (bit (row (b .i) (c .role)) (c .junior) || bit (row (b .a) (c .role)) (c .junior)) ⌝ }
+fn linked<'t>(i: &'t [u64; 64], a: &'t [u64; 64], c: Command) -> bool
+    requires { ⌜ (Malformed c → ⊥) ⌝ }
+    ensures { λ r. ⌜ r ≡ (bit (row (now (i .entry)) (c .role)) (c .junior) || bit (row (now (a .entry)) (c .role)) (c .junior)) ⌝ }
 {
     let senior = c.role as usize;
-    let both = union(row_of(&b.i, senior), row_of(&b.a, senior));
-    has(both, c.junior as usize)
+    has(union(i[senior], a[senior]), c.junior as usize)
 }
 
 // 4: the new role is live, or the edge to be added stands.
@@ -149,70 +149,69 @@ fn within_scope(scope: u64, c: Command) -> bool
 }
 
 // 8: the new role is outside the actor's strict scope.
-fn outside(v: Views, c: Command) -> bool
-    ensures { λ r. ⌜ (r ≡ true) ↔ OutsideBy (v .down) (v .up) c ⌝ }
+fn outside<'v>(down: &'v [u64; 64], up: &'v [u64; 64], c: Command) -> bool
+    requires { ⌜ length (now up) ≡ 64 ⌝ }
+    ensures { λ r. ⌜ (r ≡ true) ↔ OutsideBy (now (down .entry)) (now (up .entry)) c ⌝ }
 {
     if c.code == 1 {
-        return !has(administrators(v, c.role as usize), c.actor as usize);
+        return !has(administrators(down, up, c.role as usize), c.actor as usize);
     }
     false
 }
 
-// The refusals on the board handed in.
-fn refused_before(b: Board, c: Command, k: Look) -> u8
-    requires { ⌜ Seen b (k .sound) (k .views .down) (k .views .up) ⌝ }
-    ensures { λ r. ⌜ First (before b c) r ⌝ }
+// The refusals on the board handed in, where it is sound and these are its views.
+fn refused_before<'t>(
+    live: u64,
+    i: &'t [u64; 64],
+    a: &'t [u64; 64],
+    c: Command,
+    down: &'t [u64; 64],
+    up: &'t [u64; 64],
+) -> u8
+    ensures { λ r. ⌜ (Viewed (boardOf live (now (i .entry)) (now (a .entry))) (now (down .entry)) (now (up .entry)) → First (before (boardOf live (now (i .entry)) (now (a .entry))) c) r) ⌝ }
 {
-    let live = b.live;
-    if !k.sound {
-        return 1;
-    }
     if malformed(c) {
         return 2;
     }
     if missing(live, c) {
         return 3;
     }
-    let edge = linked(b, c);
+    let edge = linked(i, a, c);
     if standing(live, c, edge) {
         return 4;
     }
     if no_edge(c, edge) {
         return 5;
     }
-    let views = k.views;
-    if within_scope(scope(views, c.actor as usize), c) {
+    if within_scope(scope(down, up, c.actor as usize), c) {
         return 0;
     }
     6
 }
 
-// The refusals on the board that the command would leave.
-fn refused_after(b: Board, c: Command) -> u8
-    ensures { λ r. ⌜ First (afterwards b c) r ⌝ }
+// The refusals on the board that the command would leave; its entries join live roles.
+fn refused_after<'t>(live: u64, i: &'t [u64; 64], a: &'t [u64; 64], c: Command) -> u8
+    ensures { λ r. ⌜ (Shaped (tables live (now (i .entry)) (now (a .entry))) → Joined (tables live (now (i .entry)) (now (a .entry))) → First (afterwards (boardOf live (now (i .entry)) (now (a .entry))) c) r) ⌝ }
 {
-    let live = b.live;
-    let i = b.i;
-    let a = b.a;
-    if loops(i, a) {
+    let mut down = [0u64; 64];
+    let mut up = [0u64; 64];
+    if !work_out(live, i, a, &mut down, &mut up) {
         return 7;
     }
-    let views = work_out(live, i, a);
-    if outside(views, c) {
+    if outside(&down, &up, c) {
         return 8;
     }
-    if managed(live, views) {
+    if managed(live, &down, &up) {
         return 0;
     }
     9
 }
 
-// One command on a board.
-pub fn step(b: Board, c: Command) -> Outcome
-    ensures { λ r. ⌜ Decided b c (r .number) (r .board) ⌝ }
+// One command on a board that was found sound, with its views.
+pub fn decide<'v>(b: Board, c: Command, down: &'v [u64; 64], up: &'v [u64; 64]) -> Outcome
+    ensures { λ r. ⌜ (Viewed b (now (down .entry)) (now (up .entry)) → Decided b c (r .number) (r .board)) ⌝ }
 {
-    let k = look_at(b);
-    let early = refused_before(b, c, k);
+    let early = refused_before(b.live, &b.i, &b.a, c, down, up);
     if early != 0 {
         return Outcome {
             number: early,
@@ -220,7 +219,7 @@ pub fn step(b: Board, c: Command) -> Outcome
         };
     }
     let next = after(b, c);
-    let late = refused_after(next, c);
+    let late = refused_after(next.live, &next.i, &next.a, c);
     if late != 0 {
         return Outcome {
             number: late,
@@ -231,4 +230,19 @@ pub fn step(b: Board, c: Command) -> Outcome
         number: 0,
         board: next,
     }
+}
+
+// One command on a board.
+pub fn step(b: Board, c: Command) -> Outcome
+    ensures { λ r. ⌜ Decided b c (r .number) (r .board) ⌝ }
+{
+    let mut down = [0u64; 64];
+    let mut up = [0u64; 64];
+    if !look(b.live, &b.i, &b.a, &mut down, &mut up) {
+        return Outcome {
+            number: 1,
+            board: b,
+        };
+    }
+    decide(b, c, &down, &up)
 }

@@ -4,8 +4,8 @@ ghost use mathlib.Core.Path.{_≡_};
 ghost use mathlib.Core.Bool.{_||_};
 ghost use lib.Dec.{eqb};
 ghost use Rattle.sets.specs.Sets.{bit, setOf};
+ghost use Rattle.hierarchy.specs.Tables.{IsTable};
 ghost use Rattle.board.specs.Effects.{lives, tableAfter, after};
-ghost use Rattle.board.specs.Rows.{Whole};
 use crate::Board;
 use crate::Command;
 use crate::tables::enter;
@@ -20,7 +20,7 @@ use sets::without;
 // What the command does to one table: `seniors` and `juniors` are the sets that command 1 names for it, `part` whether the kind has
 // its part.
 fn edit(t: &mut [u64; 64], c: Command, seniors: u64, juniors: u64, part: bool)
-    requires { ⌜ Whole (now t) ⌝ }
+    requires { ⌜ IsTable (now t) ⌝ }
     ensures { λ _. ⌜ now (t .exit) ≡ tableAfter c seniors juniors part (now (t .entry)) ⌝ }
 {
     let code = c.code;

@@ -1,13 +1,14 @@
-// The four questions. Each looks at the board once, and answers 1, 2 or 3 with no, none or zero, or 0 with the answer.
+// The four questions. Each looks at the board once, and answers 1, 2 or 3 with no, none or zero, or 0 with the answer. The forms
+// with `_by` are for a caller that has just found the board sound and has its views: the same answer, with nothing worked out again.
 ghost use mathlib.Core.Path.{_≡_};
-ghost use mathlib.Core.Bool.{true};
-ghost use mathlib.Core.Logic.{_↔_};
+ghost use mathlib.Core.List.{List};
+ghost use Prim.Native.Nat.{ℕ};
 ghost use Rattle.hierarchy.specs.First.{First};
-ghost use Rattle.hierarchy.specs.Words.{Sound};
-ghost use Rattle.board.specs.Boards.{tablesOf};
-ghost use Rattle.board.specs.Questions.{refusals, DerivesAnswer, ScopeAnswer, ManagerAnswer, StepsAnswer};
+ghost use Rattle.board.specs.Looks.{Viewed};
+ghost use Rattle.board.specs.Questions.{misnamed, DerivesAnswer, ScopeAnswer, ManagerAnswer, StepsAnswer};
+ghost use Rattle.board.specs.declared.Board.{Board};
 use crate::Board;
-use crate::looks::look_at;
+use crate::looks::look;
 use hierarchy::scopes::Climbed;
 use sets::Pick;
 use sets::has;
@@ -41,15 +42,10 @@ pub struct Stepped {
     pub steps: usize,
 }
 
-// The refusals of a question about x and y.
-fn refused(b: Board, sound: bool, x: u8, y: u8) -> u8
-    requires { ⌜ (sound ≡ true) ↔ Sound (tablesOf b) ⌝ }
-    ensures { λ r. ⌜ First (refusals b x y) r ⌝ }
+// The refusals of a question about x and y on a sound board.
+fn refused(live: u64, x: u8, y: u8) -> u8
+    ensures { λ r. ⌜ First (misnamed live x y) r ⌝ }
 {
-    let live = b.live;
-    if !sound {
-        return 1;
-    }
     if x > 63 {
         return 2;
     }
@@ -69,13 +65,25 @@ fn refused(b: Board, sound: bool, x: u8, y: u8) -> u8
 pub fn derives(b: Board, x: u8, y: u8) -> Derived
     ensures { λ r. ⌜ DerivesAnswer b x y (r .number) (r .yes) ⌝ }
 {
-    let k = look_at(b);
-    let number = refused(b, k.sound, x, y);
+    let mut down = [0u64; 64];
+    let mut up = [0u64; 64];
+    if !look(b.live, &b.i, &b.a, &mut down, &mut up) {
+        return Derived {
+            number: 1,
+            yes: false,
+        };
+    }
+    derives_by(b.live, &down, x, y)
+}
+
+pub fn derives_by(live: u64, down: &[u64; 64], x: u8, y: u8) -> Derived
+    ensures { λ r. ⌜ ((b : Board) (up : List ℕ) → b .live ≡ live → Viewed b (now (down .entry)) up → DerivesAnswer b x y (r .number) (r .yes)) ⌝ }
+{
+    let number = refused(live, x, y);
     if number != 0 {
         return Derived { number, yes: false };
     }
-    let views = k.views;
-    let yes = has(views.down[x as usize], y as usize);
+    let yes = has(down[x as usize], y as usize);
     Derived { number, yes }
 }
 
@@ -83,8 +91,22 @@ pub fn derives(b: Board, x: u8, y: u8) -> Derived
 pub fn scope(b: Board, a: u8, r: u8) -> Scoped
     ensures { λ y. ⌜ ScopeAnswer b a r (y .number) (y .yes) (y .count) ⌝ }
 {
-    let k = look_at(b);
-    let number = refused(b, k.sound, a, r);
+    let mut down = [0u64; 64];
+    let mut up = [0u64; 64];
+    if !look(b.live, &b.i, &b.a, &mut down, &mut up) {
+        return Scoped {
+            number: 1,
+            yes: false,
+            count: 0,
+        };
+    }
+    scope_by(b.live, &down, &up, a, r)
+}
+
+pub fn scope_by<'v>(live: u64, down: &'v [u64; 64], up: &'v [u64; 64], a: u8, r: u8) -> Scoped
+    ensures { λ y. ⌜ ((b : Board) → b .live ≡ live → Viewed b (now (down .entry)) (now (up .entry)) → ScopeAnswer b a r (y .number) (y .yes) (y .count)) ⌝ }
+{
+    let number = refused(live, a, r);
     if number != 0 {
         return Scoped {
             number,
@@ -92,8 +114,7 @@ pub fn scope(b: Board, a: u8, r: u8) -> Scoped
             count: 0,
         };
     }
-    let views = k.views;
-    let all = hierarchy::scopes::scope(views, a as usize);
+    let all = hierarchy::scopes::scope(down, up, a as usize);
     let yes = has(all, r as usize);
     let count = size(all);
     Scoped { number, yes, count }
@@ -103,16 +124,28 @@ pub fn scope(b: Board, a: u8, r: u8) -> Scoped
 pub fn line_manager(b: Board, r: u8) -> Managed
     ensures { λ y. ⌜ ManagerAnswer b r (y .number) (y .manager) ⌝ }
 {
-    let k = look_at(b);
-    let number = refused(b, k.sound, r, r);
+    let mut down = [0u64; 64];
+    let mut up = [0u64; 64];
+    if !look(b.live, &b.i, &b.a, &mut down, &mut up) {
+        return Managed {
+            number: 1,
+            manager: Manager::Nobody,
+        };
+    }
+    line_manager_by(b.live, &down, &up, r)
+}
+
+pub fn line_manager_by<'v>(live: u64, down: &'v [u64; 64], up: &'v [u64; 64], r: u8) -> Managed
+    ensures { λ y. ⌜ ((b : Board) → b .live ≡ live → Viewed b (now (down .entry)) (now (up .entry)) → ManagerAnswer b r (y .number) (y .manager)) ⌝ }
+{
+    let number = refused(live, r, r);
     if number != 0 {
         return Managed {
             number,
             manager: Manager::Nobody,
         };
     }
-    let views = k.views;
-    let Pick::Role(m) = hierarchy::scopes::manager(views, r as usize) else {
+    let Pick::Role(m) = hierarchy::scopes::manager(down, up, r as usize) else {
         return Managed {
             number,
             manager: Manager::Nobody,
@@ -128,13 +161,25 @@ pub fn line_manager(b: Board, r: u8) -> Managed
 pub fn steps(b: Board, r: u8) -> Stepped
     ensures { λ y. ⌜ StepsAnswer b r (y .number) (y .steps) ⌝ }
 {
-    let k = look_at(b);
-    let number = refused(b, k.sound, r, r);
+    let mut down = [0u64; 64];
+    let mut up = [0u64; 64];
+    if !look(b.live, &b.i, &b.a, &mut down, &mut up) {
+        return Stepped {
+            number: 1,
+            steps: 0,
+        };
+    }
+    steps_by(b.live, &down, &up, r)
+}
+
+pub fn steps_by<'v>(live: u64, down: &'v [u64; 64], up: &'v [u64; 64], r: u8) -> Stepped
+    ensures { λ y. ⌜ ((b : Board) → b .live ≡ live → Viewed b (now (down .entry)) (now (up .entry)) → StepsAnswer b r (y .number) (y .steps)) ⌝ }
+{
+    let number = refused(live, r, r);
     if number != 0 {
         return Stepped { number, steps: 0 };
     }
-    let views = k.views;
-    let Climbed::Steps(n) = hierarchy::scopes::steps(views, r as usize) else {
+    let Climbed::Steps(n) = hierarchy::scopes::steps(down, up, r as usize) else {
         return Stepped { number, steps: 0 };
     };
     Stepped { number, steps: n }

@@ -4,8 +4,8 @@ ghost use mathlib.Core.Bool.{cond};
 ghost use Prim.Native.Nat.{ℕ};
 ghost use lib.ListN.{length};
 ghost use Rattle.sets.specs.Sets.{bit, same?};
-ghost use Rattle.hierarchy.specs.Tables.{row};
-ghost use Rattle.board.specs.Rows.{Whole, RowSet, Entered, Left};
+ghost use Rattle.hierarchy.specs.Tables.{row, IsTable};
+ghost use Rattle.board.specs.Rows.{RowSet, Entered, Left};
 use sets::Pick;
 use sets::lowest;
 use sets::with;
@@ -24,7 +24,7 @@ pub(crate) fn row_of(t: &[u64; 64], x: usize) -> u64
 
 // s becomes the row of x.
 pub(crate) fn set_row(t: &mut [u64; 64], x: usize, s: u64)
-    requires { ⌜ Whole (now t) ⌝ }
+    requires { ⌜ IsTable (now t) ⌝ }
     ensures { λ _. ⌜ RowSet (now (t .entry)) x s (now (t .exit)) ⌝ }
 {
     if x < 64 {
@@ -44,7 +44,7 @@ fn put(s: u64, r: usize, part: bool) -> u64
 
 // The junior goes into the row of each senior, or out of it, as `part` says.
 pub(crate) fn enter(t: &mut [u64; 64], seniors: u64, junior: usize, part: bool)
-    requires { ⌜ Whole (now t) ⌝ }
+    requires { ⌜ IsTable (now t) ⌝ }
     ensures { λ _. ⌜ Entered (now (t .entry)) seniors junior part (now (t .exit)) ⌝ }
 {
     let mut rest = seniors;
@@ -59,7 +59,7 @@ pub(crate) fn enter(t: &mut [u64; 64], seniors: u64, junior: usize, part: bool)
 
 // The junior goes out of every row.
 pub(crate) fn leave(t: &mut [u64; 64], junior: usize)
-    requires { ⌜ Whole (now t) ⌝ }
+    requires { ⌜ IsTable (now t) ⌝ }
     ensures { λ _. ⌜ Left (now (t .entry)) junior (now (t .exit)) ⌝ }
 {
     let mut x = 0;

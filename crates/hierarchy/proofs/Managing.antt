@@ -17,7 +17,7 @@ use Rattle.sets.proofs.Laws.{same-eq, same-self, bit-lowest}
 use Rattle.sets.proofs.Members.{Taken, taken-part, taken-kept}
 use Rattle.hierarchy.specs.Tables.{row}
 use Rattle.hierarchy.proofs.ViewLaws.{managing-unique}
-use Rattle.hierarchy.specs.Views.{ScopeBy, AdminBy, ManagerBy, Nearest, ManagedBy, Managing, ClimbBy, ClimbBy.arrived, ClimbBy.further}
+use Rattle.hierarchy.specs.Views.{ScopeBy, AdminBy, ManagerBy, Nearest, ManagedBy, Managing, IsRole, ClimbBy, ClimbBy.arrived, ClimbBy.further}
 
 -- a no that is right
 pub no-iff : {P : Type 0} → (P → ⊥) → (false ≡ true) ↔ P
@@ -72,6 +72,11 @@ module _ {down up : List ℕ} where
       go : (y : Pick) → Lowest found y → Managing down up r y
       go (Role m) l = (to m (l .member), λ n b. l .least n (from n b))
       go Nobody l = λ n b. false-no (l .none n) (from n b)
+
+-- a role that was picked is one
+pub a-role : (s : ℕ) (y : Pick) → Lowest s y → IsRole y
+a-role s (Role m) l = l .role
+a-role s Nobody l = tt
 
 -- the test that all administrators derive m or are m
 pub nearest-test : (up : List ℕ) (admins m near : ℕ) (w : Bool) → m < 64

@@ -15,7 +15,7 @@ use Rattle.sets.proofs.Bools.{iff-same}
 use Rattle.sets.proofs.Laws.{ext}
 use Rattle.hierarchy.specs.declared.scopes.Climbed.{Climbed}
 use Rattle.hierarchy.specs.declared.scopes.Climbed.the-variants.{Steps, Stopped}
-use Rattle.hierarchy.specs.Tables.{Tables, row, Live}
+use Rattle.hierarchy.specs.Tables.{Tables, row, IsTable, Live}
 use Rattle.hierarchy.specs.Words.{Reaches, Scope, Administrator, LineManager, Loops, Sound, Climb}
 use Rattle.hierarchy.specs.Words.{Climb.top}
 use Rattle.hierarchy.specs.Views.{AreViews, ScopeBy, AdminBy, ManagerBy, Managing, ClimbBy, Climbing}
@@ -115,14 +115,9 @@ module _ (down up : List ℕ) where
 
 -- ---- views are settled
 
--- 64 rows, each a set of roles
-pub record IsTable (rows : List ℕ) : Type 0 where
-  pub count : length rows ≡ 64
-  pub fits : (x : ℕ) → row rows x < 2 ^ 64
-
 table-ext : {s t : List ℕ} → IsTable s → IsTable t → ((x y : ℕ) → (y ∈ row s x) ↔ (y ∈ row t x)) → s ≡ t
 table-ext {s} {t} p q e =
-    ext-getD 0 s t (p .count ∙ sym (q .count))
+    ext-getD 0 s t (p .rows ∙ sym (q .rows))
     (λ x _. ext 64 (row s x) (row t x) (p .fits x) (q .fits x) (λ y _. iff-same (bit (row s x) y) (bit (row t x) y) (e x y .0) (e x y .1)))
 
 -- Tables have one pair of views.

@@ -19,6 +19,11 @@ tables live i a = record { live = live; i = i; a = a }
 abbrev pub row : List ℕ → ℕ → ℕ
 row t x = getD t x 0
 
+-- 64 rows, and no row has a member above 63. Its type says so of a table by value; of one that is lent it has to be said.
+pub record IsTable (t : List ℕ) : Type 0 where
+  pub rows : length t ≡ 64
+  pub fits : (x : ℕ) → row t x < 2 ^ 64
+
 abbrev pub Live : Tables → ℕ → Type 0
 Live t x = x ∈ t .live
 

@@ -5,6 +5,7 @@ use mathlib.Core.Bool.{Bool, true}
 use mathlib.Core.Logic.{_≢_, _⊎_, _↔_}
 use mathlib.Core.List.{List}
 use Prim.Native.Nat.{ℕ, suc, _≤_, _<_}
+use lib.ListN.{length}
 use Rattle.sets.specs.Sets.{_∈_}
 use Rattle.sets.specs.declared.Pick.{Pick}
 use Rattle.sets.specs.declared.Pick.the-variants.{Role, Nobody}
@@ -30,9 +31,11 @@ pub record InOrder (t : Tables) : Type 0 where
   pub juniors : (x y : ℕ) → Live t x → kind t x y ≢ 0 → Live t y
   pub loopless : (x : ℕ) → Live t x → Reaches t x x → ⊥
 
--- both views, and whether there is order
+-- both views, of 64 rows each, and whether there is order
 pub record WorkedOut (t : Tables) (down up : List ℕ) (order : Bool) : Type 0 where
   pub views : AreViews t down up
+  pub down-rows : length down ≡ 64
+  pub up-rows : length up ≡ 64
   pub in-order : (order ≡ true) ↔ InOrder t
 
 -- r is in the scope of a
@@ -64,6 +67,11 @@ ManagedBy live down up = (r : ℕ) → r ∈ live → r ≢ 0 → (a : ℕ) × A
 abbrev pub Managing : List ℕ → List ℕ → ℕ → Pick → Type 0
 Managing down up r (Role m) = ManagerBy down up m r × ((n : ℕ) → ManagerBy down up n r → m ≤ n)
 Managing down up r Nobody = (n : ℕ) → ManagerBy down up n r → ⊥
+
+-- whoever it is, it is a role
+abbrev pub IsRole : Pick → Type 0
+IsRole (Role m) = m < 64
+IsRole Nobody = Unit {0}
 
 -- from r up to role 0 by these answers, in n steps
 pub data ClimbBy (down up : List ℕ) : ℕ → ℕ → Type 0 where

@@ -6,7 +6,7 @@ ghost use mathlib.Core.Logic.{_↔_};
 ghost use Prim.Native.Nat.{ℕ, _<_};
 ghost use lib.ListN.{length};
 ghost use Rattle.sets.specs.Sets.{_∈_};
-ghost use Rattle.hierarchy.specs.Views.{ScopeBy, AdminBy, ManagedBy, Nearest, Managing, Climbing};
+ghost use Rattle.hierarchy.specs.Views.{ScopeBy, AdminBy, ManagedBy, Nearest, Managing, IsRole, Climbing};
 use sets::Pick;
 use sets::has;
 use sets::lowest;
@@ -91,7 +91,7 @@ fn nearest(up: &[u64; 64], administrators: u64) -> u64
 // The line manager of r.
 fn manager_of<'v>(down: &'v [u64; 64], up: &'v [u64; 64], r: usize) -> Pick
     requires { ⌜ r < 64 ⌝ }
-    ensures { λ y. ⌜ Managing (now (down .entry)) (now (up .entry)) r y ⌝ }
+    ensures { λ y. ⌜ IsRole y × Managing (now (down .entry)) (now (up .entry)) r y ⌝ }
 {
     let administrators = administrators_of(down, up, r);
     lowest(nearest(up, administrators))
@@ -152,7 +152,7 @@ pub fn administrators<'v>(down: &'v [u64; 64], up: &'v [u64; 64], r: usize) -> u
 
 // The line manager of r, or nobody.
 pub fn manager<'v>(down: &'v [u64; 64], up: &'v [u64; 64], r: usize) -> Pick
-    ensures { λ y. ⌜ (length (now (up .entry)) ≡ 64 → Managing (now (down .entry)) (now (up .entry)) r y) ⌝ }
+    ensures { λ y. ⌜ IsRole y × (length (now (up .entry)) ≡ 64 → Managing (now (down .entry)) (now (up .entry)) r y) ⌝ }
 {
     if r < 64 {
         return manager_of(down, up, r);

@@ -121,7 +121,7 @@ fn order<'t>(
 // A role on the way to a loop, or to a role that isn't live, can't be settled by its juniors: each such role gets closures of its own.
 fn finish<'t>(live: u64, i: &'t [u64; 64], a: &'t [u64; 64], down: &mut [u64; 64], left: u64)
     requires { ⌜ Finishing (tables live (now i) (now a)) (now down) left ⌝ }
-    ensures { λ _. ⌜ IsDown (tables live (now (i .entry)) (now (a .entry))) (now (down .exit)) ⌝ }
+    ensures { λ _. ⌜ (length (now (down .exit)) ≡ 64) × IsDown (tables live (now (i .entry)) (now (a .entry))) (now (down .exit)) ⌝ }
 {
     let mut rest = left;
     loop {
@@ -150,7 +150,7 @@ fn mark(up: &mut [u64; 64], s: u64, x: usize)
 
 // What derives each role: `down` turned round, by its members.
 fn turn(live: u64, down: &[u64; 64], up: &mut [u64; 64])
-    ensures { λ _. ⌜ IsUp live (now (down .entry)) (now (up .exit)) ⌝ }
+    ensures { λ _. ⌜ (length (now (up .exit)) ≡ 64) × IsUp live (now (down .entry)) (now (up .exit)) ⌝ }
 {
     blank(up);
     let mut rest = live;

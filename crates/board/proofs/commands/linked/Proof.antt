@@ -1,7 +1,5 @@
-use mathlib.Core.Path.{_∙_, ap₂}
-use mathlib.Core.Bool.{_||_}
-use Prim.Native.Nat.{ℕ}
-use Rattle.sets.specs.Sets.{bit}
+use mathlib.Core.Path.{_∙_}
+use Rattle.board.proofs.Trying.{role-lt}
 use borrow.Author.Needs.{needs}
 use Rattle.board.proofs.commands.linked.Statement.{statement}
 use Rattle.board.proofs.commands.linked.Tie as tie
@@ -9,11 +7,17 @@ use Rattle.board.proofs.commands.linked.Tie as tie
 cast-senior : tie.Need-cast-senior
 cast-senior c = search needs
 
-row-of-requires : tie.Need-row-of-requires
-row-of-requires c κs = search needs
+mul-union : tie.Need-mul-union
+mul-union c = search needs
 
-row-of-requires-2 : tie.Need-row-of-requires-2
-row-of-requires-2 c κs = search needs
+element-copy-out-union : tie.Need-element-copy-out-union
+element-copy-out-union c = role-lt _ (c .before .pre)
+
+mul-union-2 : tie.Need-mul-union-2
+mul-union-2 c = search needs
+
+element-copy-out-union-2 : tie.Need-element-copy-out-union-2
+element-copy-out-union-2 c = role-lt _ (c .before .before .pre)
 
 union-requires : tie.Need-union-requires
 union-requires c κs = search needs
@@ -25,17 +29,17 @@ has-requires : tie.Need-has-requires
 has-requires c κs = search needs
 
 returns : tie.Need-returns
-returns c = let u = c .before .before in
-    let j = u .before .before .before .before .before .before .before .before .args .c .junior in
-    c .has .ensures ∙ u .union .ensures j ∙ ap₂ (λ (m n : ℕ). bit m j || bit n j) (u .before .before .before .before .row-of .ensures) (u .before .row-of2 .ensures)
+returns c = c .has .ensures ∙ c .before .before .union .ensures (c .before .before .before .before .before .before .args .c .junior)
 
 pub linked-spec : {M : Type 1} → statement M
 linked-spec =
     tie.close
     (tie.spec
     cast-senior
-    row-of-requires
-    row-of-requires-2
+    mul-union
+    element-copy-out-union
+    mul-union-2
+    element-copy-out-union-2
     union-requires
     cast-has
     has-requires

@@ -1,38 +1,29 @@
+use borrow.Author.Tests.{not-true, not-false}
 use mathlib.Core.Path.{refl}
-use Rattle.board.proofs.Asking.{asked, derives-done}
+use Rattle.board.proofs.Looking.{fails, viewed}
+use Rattle.board.proofs.Asking.{derives-unsound}
+use native.Mathlib.Omega.{arith}
+use mir.Syntax.{w64}
+use mir.Val.{Fits}
+use Rattle.hierarchy.specs.Tables.{row}
 use borrow.Author.Needs.{needs}
 use Rattle.board.proofs.questions.derives.Statement.{statement}
 use Rattle.board.proofs.questions.derives.Tie as tie
 
-look-at-requires : tie.Need-look-at-requires
-look-at-requires c κs = search needs
-
-refused-requires : tie.Need-refused-requires
-refused-requires c κs = search needs
+look-requires : tie.Need-look-requires
+look-requires c κs = (
+  record { rows = search needs; fits = λ x. let f : Fits w64 (row (c .before .before .before .before .before .args .t1 .i) x) = search needs in omega arith },
+  record { rows = search needs; fits = λ x. let f : Fits w64 (row (c .before .before .before .before .before .args .t1 .a) x) = search needs in omega arith },
+)
 
 returns : tie.Need-returns
-returns c = record { numbered = c .before .refused .ensures; done = λ z. absurd (c .if1 .taken z); refused = λ _. refl }
+returns c = derives-unsound _ (fails (c .before .look .ensures .sound-is) (not-true _ (c .if1 .taken))) _ _
 
-mul-has : tie.Need-mul-has
-mul-has c = search needs
-
-element-copy-out-has : tie.Need-element-copy-out-has
-element-copy-out-has c = asked _ _ _ _ (c .before .before .refused .ensures) (c .before .if1 .left) .x-lt
-
-has-requires : tie.Need-has-requires
-has-requires c κs = search needs
+derives-by-requires : tie.Need-derives-by-requires
+derives-by-requires c κs = search needs
 
 returns-2 : tie.Need-returns-2
-returns-2 c = let e = c .before .before .before in derives-done (e .before .before .look-at .ensures) (e .before .refused .ensures) (e .if1 .left) (c .has .ensures)
+returns-2 c = c .derives-by .ensures _ _ refl (viewed (c .before .before .before .look .ensures) (not-false _ (c .before .before .if1 .left)))
 
 pub derives-spec : {M : Type 1} → statement M
-derives-spec =
-    tie.close
-    (tie.spec
-    look-at-requires
-    refused-requires
-    returns
-    mul-has
-    element-copy-out-has
-    has-requires
-    returns-2)
+derives-spec = tie.close (tie.spec look-requires returns derives-by-requires returns-2)

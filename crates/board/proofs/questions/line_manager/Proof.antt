@@ -1,50 +1,29 @@
+use borrow.Author.Tests.{not-true, not-false}
+use mathlib.Core.Path.{refl}
+use Rattle.board.proofs.Looking.{fails, viewed}
+use Rattle.board.proofs.Asking.{manager-unsound}
 use native.Mathlib.Omega.{arith}
-use Rattle.board.proofs.Asking.{asked, manager-lt, manager-done, manager-none}
+use mir.Syntax.{w64}
+use mir.Val.{Fits}
+use Rattle.hierarchy.specs.Tables.{row}
 use borrow.Author.Needs.{needs}
 use Rattle.board.proofs.questions.line_manager.Statement.{statement}
 use Rattle.board.proofs.questions.line_manager.Tie as tie
 
-look-at-requires : tie.Need-look-at-requires
-look-at-requires c κs = search needs
-
-refused-requires : tie.Need-refused-requires
-refused-requires c κs = search needs
+look-requires : tie.Need-look-requires
+look-requires c κs = (
+  record { rows = search needs; fits = λ x. let f : Fits w64 (row (c .before .before .before .before .before .args .t1 .i) x) = search needs in omega arith },
+  record { rows = search needs; fits = λ x. let f : Fits w64 (row (c .before .before .before .before .before .args .t1 .a) x) = search needs in omega arith },
+)
 
 returns : tie.Need-returns
-returns c = search needs
+returns c = manager-unsound _ (fails (c .before .look .ensures .sound-is) (not-true _ (c .if1 .taken))) _
 
-manager-requires : tie.Need-manager-requires
-manager-requires c κs = search needs
-
-enum-known-m : tie.Need-enum-known-m
-enum-known-m c = search needs
-
-enum-told : tie.Need-enum-told
-enum-told c = search needs
+line-manager-by-requires : tie.Need-line-manager-by-requires
+line-manager-by-requires c κs = search needs
 
 returns-2 : tie.Need-returns-2
-returns-2 c = let e = c .before .before .before .before in
-    manager-none (e .before .before .look-at .ensures) (e .before .refused .ensures) (e .if1 .left) (c .enum-told .given .1) (c .before .before .manager .ensures)
-
-cast-t12 : tie.Need-cast-t12
-cast-t12 c = let e = c .before .before .before .before .before in
-    let l = manager-lt (e .before .before .look-at .ensures) (asked _ _ _ _ (e .before .refused .ensures) (e .if1 .left)) (c .before .m .given .1) (c .before .before .before .manager .ensures) in
-    omega arith
-
-returns-3 : tie.Need-returns-3
-returns-3 c = let e = c .before .before .before .before .before in
-    manager-done (e .before .before .look-at .ensures) (e .before .refused .ensures) (e .if1 .left) (c .before .m .given .1) (c .before .before .before .manager .ensures)
+returns-2 c = c .line-manager-by .ensures _ refl (viewed (c .before .before .before .before .look .ensures) (not-false _ (c .before .before .before .if1 .left)))
 
 pub line-manager-spec : {M : Type 1} → statement M
-line-manager-spec =
-    tie.close
-    (tie.spec
-    look-at-requires
-    refused-requires
-    returns
-    manager-requires
-    enum-known-m
-    enum-told
-    returns-2
-    cast-t12
-    returns-3)
+line-manager-spec = tie.close (tie.spec look-requires returns line-manager-by-requires returns-2)

@@ -1,39 +1,29 @@
+use borrow.Author.Tests.{not-true, not-false}
 use mathlib.Core.Path.{refl}
-use Rattle.board.proofs.Asking.{scope-done}
+use Rattle.board.proofs.Looking.{fails, viewed}
+use Rattle.board.proofs.Asking.{scope-unsound}
+use native.Mathlib.Omega.{arith}
+use mir.Syntax.{w64}
+use mir.Val.{Fits}
+use Rattle.hierarchy.specs.Tables.{row}
 use borrow.Author.Needs.{needs}
 use Rattle.board.proofs.questions.scope.Statement.{statement}
 use Rattle.board.proofs.questions.scope.Tie as tie
 
-look-at-requires : tie.Need-look-at-requires
-look-at-requires c κs = search needs
-
-refused-requires : tie.Need-refused-requires
-refused-requires c κs = search needs
+look-requires : tie.Need-look-requires
+look-requires c κs = (
+  record { rows = search needs; fits = λ x. let f : Fits w64 (row (c .before .before .before .before .before .args .t1 .i) x) = search needs in omega arith },
+  record { rows = search needs; fits = λ x. let f : Fits w64 (row (c .before .before .before .before .before .args .t1 .a) x) = search needs in omega arith },
+)
 
 returns : tie.Need-returns
-returns c = record { numbered = c .before .refused .ensures; done = λ z. absurd (c .if1 .taken z); counted = λ z. absurd (c .if1 .taken z); refused = λ _. (refl, refl) }
+returns c = scope-unsound _ (fails (c .before .look .ensures .sound-is) (not-true _ (c .if1 .taken))) _ _
 
-scope-requires : tie.Need-scope-requires
-scope-requires c κs = search needs
-
-has-requires : tie.Need-has-requires
-has-requires c κs = search needs
-
-size-requires : tie.Need-size-requires
-size-requires c κs = search needs
+scope-by-requires : tie.Need-scope-by-requires
+scope-by-requires c κs = search needs
 
 returns-2 : tie.Need-returns-2
-returns-2 c = let e = c .before .before .before .before in
-    scope-done (e .before .before .look-at .ensures) (c .before .before .scope .result) (e .before .refused .ensures) (e .if1 .left) (c .before .before .scope .ensures) (c .before .has .ensures) (c .size .ensures)
+returns-2 c = c .scope-by .ensures _ refl (viewed (c .before .before .before .before .look .ensures) (not-false _ (c .before .before .before .if1 .left)))
 
 pub scope-spec : {M : Type 1} → statement M
-scope-spec =
-    tie.close
-    (tie.spec
-    look-at-requires
-    refused-requires
-    returns
-    scope-requires
-    has-requires
-    size-requires
-    returns-2)
+scope-spec = tie.close (tie.spec look-requires returns scope-by-requires returns-2)

@@ -1,44 +1,29 @@
+use borrow.Author.Tests.{not-true, not-false}
 use mathlib.Core.Path.{refl}
-use Rattle.board.proofs.Asking.{asked, steps-done, never-stopped}
+use Rattle.board.proofs.Looking.{fails, viewed}
+use Rattle.board.proofs.Asking.{steps-unsound}
+use native.Mathlib.Omega.{arith}
+use mir.Syntax.{w64}
+use mir.Val.{Fits}
+use Rattle.hierarchy.specs.Tables.{row}
 use borrow.Author.Needs.{needs}
 use Rattle.board.proofs.questions.steps.Statement.{statement}
 use Rattle.board.proofs.questions.steps.Tie as tie
 
-look-at-requires : tie.Need-look-at-requires
-look-at-requires c κs = search needs
-
-refused-requires : tie.Need-refused-requires
-refused-requires c κs = search needs
+look-requires : tie.Need-look-requires
+look-requires c κs = (
+  record { rows = search needs; fits = λ x. let f : Fits w64 (row (c .before .before .before .before .before .args .t1 .i) x) = search needs in omega arith },
+  record { rows = search needs; fits = λ x. let f : Fits w64 (row (c .before .before .before .before .before .args .t1 .a) x) = search needs in omega arith },
+)
 
 returns : tie.Need-returns
-returns c = record { numbered = c .before .refused .ensures; done = λ z. absurd (c .if1 .taken z); refused = λ _. refl }
+returns c = steps-unsound _ (fails (c .before .look .ensures .sound-is) (not-true _ (c .if1 .taken))) _
 
-steps-requires : tie.Need-steps-requires
-steps-requires c κs = search needs
-
-enum-known-n : tie.Need-enum-known-n
-enum-known-n c = search needs
-
-enum-told : tie.Need-enum-told
-enum-told c = search needs
+steps-by-requires : tie.Need-steps-by-requires
+steps-by-requires c κs = search needs
 
 returns-2 : tie.Need-returns-2
-returns-2 c = let e = c .before .before .before .before in
-    absurd (never-stopped (e .before .before .look-at .ensures) (asked _ _ _ _ (e .before .refused .ensures) (e .if1 .left)) (c .enum-told .given .1) (c .before .before .steps .ensures))
-
-returns-3 : tie.Need-returns-3
-returns-3 c = let e = c .before .before .before .before .before in
-    steps-done (e .before .before .look-at .ensures) (e .before .refused .ensures) (e .if1 .left) (c .before .n .given .1) (c .before .before .before .steps .ensures)
+returns-2 c = c .steps-by .ensures _ refl (viewed (c .before .before .before .before .look .ensures) (not-false _ (c .before .before .before .if1 .left)))
 
 pub steps-spec : {M : Type 1} → statement M
-steps-spec =
-    tie.close
-    (tie.spec
-    look-at-requires
-    refused-requires
-    returns
-    steps-requires
-    enum-known-n
-    enum-told
-    returns-2
-    returns-3)
+steps-spec = tie.close (tie.spec look-requires returns steps-by-requires returns-2)

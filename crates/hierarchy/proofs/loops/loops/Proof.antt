@@ -17,10 +17,13 @@ returns c = loops-found (c .work-out .result) rows-i rows-a (λ x. omega (arith,
   where
     rows-i : length (c .before .before .before .before .before .args .t1) ≡ 64
     rows-i = search needs
+
     rows-a : length (c .before .before .before .before .before .args .t2) ≡ 64
     rows-a = search needs
+
     fits-i : (x : ℕ) → Fits w64 (getD (c .before .before .before .before .before .args .t1) x 0)
     fits-i x = search needs
+
     fits-a : (x : ℕ) → Fits w64 (getD (c .before .before .before .before .before .args .t2) x 0)
     fits-a x = search needs
 

@@ -7,10 +7,10 @@ manager-of-requires : tie.Need-manager-of-requires
 manager-of-requires c κs = search needs
 
 returns : tie.Need-returns
-returns c = search needs
+returns c = (c .manager-of .ensures .0, λ _. c .manager-of .ensures .1)
 
 returns-2 : tie.Need-returns-2
-returns-2 c = λ rows m b. past-row (c .before .args .up .now) (c .before .args .r) m rows (c .if1 .left) (b .admin .scope .derived)
+returns-2 c = (tt, λ rows m b. past-row (c .before .args .up .now) (c .before .args .r) m rows (c .if1 .left) (b .admin .scope .derived))
 
 pub manager-spec : {M : Type 1} → statement M
 manager-spec = tie.close (tie.spec manager-of-requires returns returns-2)

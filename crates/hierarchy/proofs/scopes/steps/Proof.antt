@@ -30,7 +30,7 @@ enum-told : tie.Need-enum-told Inv-loop μ-loop
 enum-told c = search needs
 
 returns-2 : tie.Need-returns-2 Inv-loop μ-loop
-returns-2 c = λ rows. climb-stopped _ _ (c .before .before .before .before .before .loop .inv rows) (c .before .before .before .if1 .left) (subst (Managing _ _ (c .before .before .before .before .before .loop .x)) (c .enum-told .given .1) (c .before .before .manager .ensures rows))
+returns-2 c = λ rows. climb-stopped _ _ (c .before .before .before .before .before .loop .inv rows) (c .before .before .before .if1 .left) (subst (Managing _ _ (c .before .before .before .before .before .loop .x)) (c .enum-told .given .1) (c .before .before .manager .ensures .1 rows))
 
 add-n : tie.Need-add-n Inv-loop μ-loop
 add-n c = search needs
@@ -39,7 +39,7 @@ loop-less : tie.Need-loop-less Inv-loop μ-loop
 loop-less c = search needs
 
 loop-again : tie.Need-loop-again Inv-loop μ-loop
-loop-again c = λ rows. climb-turn _ _ (c .before .before .before .before .before .before .loop .inv rows) (c .before .before .before .before .if1 .left) (subst (Managing _ _ (c .before .before .before .before .before .before .loop .x)) (c .before .m .given .1) (c .before .before .before .manager .ensures rows))
+loop-again c = λ rows. climb-turn _ _ (c .before .before .before .before .before .before .loop .inv rows) (c .before .before .before .before .if1 .left) (subst (Managing _ _ (c .before .before .before .before .before .before .loop .x)) (c .before .m .given .1) (c .before .before .before .manager .ensures .1 rows))
 
 returns-3 : tie.Need-returns-3 Inv-loop μ-loop
 returns-3 c = λ rows. climb-long _ _ (c .before .loop .inv rows) (c .loop-test .left)

@@ -31,7 +31,7 @@ enum-told : tie.Need-enum-told Inv-loop μ-loop
 enum-told c = search needs
 
 returns : tie.Need-returns Inv-loop μ-loop
-returns c = finish-end (nobody (c .enum-told .given .1) (c .before .before .lowest .ensures)) (c .before .before .before .loop .inv)
+returns c = (c .before .before .before .loop .inv .rows, finish-end (nobody (c .enum-told .given .1) (c .before .before .lowest .ensures)) (c .before .before .before .loop .inv))
 
 single-requires : tie.Need-single-requires Inv-loop μ-loop
 single-requires c κs = search needs

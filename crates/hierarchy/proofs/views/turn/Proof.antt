@@ -31,7 +31,7 @@ enum-told : tie.Need-enum-told Inv-loop μ-loop
 enum-told c = search needs
 
 returns : tie.Need-returns Inv-loop μ-loop
-returns c = turning-end (nobody (c .enum-told .given .1) (c .before .before .lowest .ensures)) (c .before .before .before .loop .inv)
+returns c = (c .before .before .before .loop .inv .rows, turning-end (nobody (c .enum-told .given .1) (c .before .before .lowest .ensures)) (c .before .before .before .loop .inv))
 
 mul-mark : tie.Need-mul-mark Inv-loop μ-loop
 mul-mark c = let l = picked (c .before .before .x .given .1) (c .before .before .before .before .lowest .ensures) in omega arith

@@ -27,7 +27,9 @@ turn-requires c κs = search needs
 
 returns : tie.Need-returns
 returns c = record {
-  views = views-are (c .before .before .before .finish .ensures) (c .turn .ensures);
+  views = views-are (c .before .before .before .finish .ensures .1) (c .turn .ensures .1);
+  down-rows = c .before .before .before .finish .ensures .0;
+  up-rows = c .turn .ensures .0;
   in-order = order-is (c .before .before .before .before .before .minus .result) (omega (arith, c .before .before .before .before .before .minus .ok)) (c .before .before .before .before .before .before .order .ensures) (c .before .before .before .before .before .minus .ensures);
 }
 
