@@ -20,6 +20,7 @@ use frame::TRAILER;
 use frame::frame;
 use reader::Roles;
 use reader::below;
+use reader::blank;
 use reader::edges;
 use reader::listed;
 use sets::has;
@@ -54,12 +55,11 @@ pub fn read(file: &[u8]) -> Reading
     let Roles::Live(live) = listed(file, roles) else {
         return refused(11);
     };
-    let rows = edges(file, roles, records, live);
-    if !rows.good {
+    let mut i = blank();
+    let mut a = blank();
+    if !edges(file, roles, records, live, &mut i, &mut a) {
         return refused(11);
     }
-    let i = rows.i;
-    let a = rows.a;
     let board = Board { live, i, a };
     let number = trouble(board);
     if number != 0 {

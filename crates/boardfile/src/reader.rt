@@ -89,26 +89,24 @@ fn entered(row: u64, junior: usize, part: bool) -> u64
 }
 
 // No row has a member.
-fn blank() -> [u64; 64]
+pub(crate) fn blank() -> [u64; 64]
     ensures { λ r. ⌜ r ≡ replicate 64 0 ⌝ }
 {
     [0; 64]
 }
 
-// The two tables, where the records are right.
-pub(crate) struct Rows {
-    pub good: bool,
-    pub i: [u64; 64],
-    pub a: [u64; 64],
-}
-
-// The tables of the m edge records behind n role bytes.
-pub(crate) fn edges(file: &[u8], n: usize, m: usize, live: u64) -> Rows
-    requires { ⌜ GoodFrame (now file) n m × GoodRoles (now file) n live ⌝ }
-    ensures { λ r. ⌜ Entering (now (file .entry)) n m live (r .good) (r .i) (r .a) ⌝ }
+// The m edge records behind n role bytes, into two blank tables; false where a record is wrong.
+pub(crate) fn edges(
+    file: &[u8],
+    n: usize,
+    m: usize,
+    live: u64,
+    i: &mut [u64; 64],
+    a: &mut [u64; 64],
+) -> bool
+    requires { ⌜ GoodFrame (now file) n m × GoodRoles (now file) n live × (now i ≡ replicate 64 0) × (now a ≡ replicate 64 0) ⌝ }
+    ensures { λ r. ⌜ Entering (now (file .entry)) n m live r (now (i .exit)) (now (a .exit)) ⌝ }
 {
-    let mut i = blank();
-    let mut a = blank();
     let mut next: usize = 0;
     let mut k: usize = 0;
     while k < m {
@@ -116,14 +114,14 @@ pub(crate) fn edges(file: &[u8], n: usize, m: usize, live: u64) -> Rows
         let senior = e.senior;
         let place = senior * 64 + e.junior;
         if place < next || !right(live, senior, e.junior, e.kind) {
-            return Rows { good: false, i, a };
+            return false;
         }
         i[senior] = entered(i[senior], e.junior, e.kind != 2);
         a[senior] = entered(a[senior], e.junior, e.kind != 1);
         next = place + 1;
         k += 1;
     }
-    Rows { good: true, i, a }
+    true
 }
 
 // How many edge records have a senior below this one; they ascend, so these stand first.

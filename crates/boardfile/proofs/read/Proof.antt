@@ -1,11 +1,11 @@
 use mathlib.Core.Path.{_≡_, sym, subst, subst₂}
-use mathlib.Core.Bool.{Bool}
+use mathlib.Core.Bool.{Bool, true}
 use mathlib.Core.List.{List}
 use Prim.Native.Nat.{ℕ}
 use native.Mathlib.Omega.{arith}
 use borrow.Author.Tests.{not-true, not-false}
 use Rattle.board.specs.declared.Board.{Board}
-use Rattle.boardfile.specs.Parts.{Framing, GoodFrame, Listing, GoodRoles, Entering, GoodEdges}
+use Rattle.boardfile.specs.Parts.{Framing, GoodFrame, Listing, GoodRoles, Entering}
 use Rattle.boardfile.specs.Answers.{ReadAnswer}
 use Rattle.boardfile.proofs.Readings.{is-file, faultless, joined, refused-frame, refused-record, troubled, untroubled}
 use borrow.Author.Needs.{needs}
@@ -39,15 +39,15 @@ good-roles c =
     let k = c .before .before .before .before in
     subst (Listing (k .before .before .before .before .before .args .file .now) (k .before .roles .given .0 .0)) (c .before .live .given .1) (c .before .before .before .listed .ensures)
 
-good-edges : (c : tie.Else1)
-    → let k = c .before .before .before .before .before .before .before in
-    let e = c .before .before .edges .result in
-    GoodEdges (k .before .before .before .before .before .args .file .now) (k .before .roles .given .0 .0) (k .before .roles .given .0 .1 .0) (c .before .before .before .before .live .given .0 .0) (e .i) (e .a)
-good-edges c =
-    let k = c .before .before .before .before .before .before .before in
-    let e = c .before .before .edges .result in
-    subst (λ (g : Bool). Entering (k .before .before .before .before .before .args .file .now) (k .before .roles .given .0 .0) (k .before .roles .given .0 .1 .0) (c .before .before .before .before .live .given .0 .0) g (e .i) (e .a))
-    (not-false (e .good) (c .if1 .left)) (c .before .before .edges .ensures)
+-- what the answer of edges says of the two tables
+abbrev Told : tie.After-edges → Bool → Type 0
+Told c good =
+    let l = c .before .before .before .before .before in
+    let k = l .before .before .before .before in
+    Entering (k .before .before .before .before .before .args .file .now) (k .before .roles .given .0 .0) (k .before .roles .given .0 .1 .0) (l .before .live .given .0 .0) good (c .edges .last .1 .1 .1 .1 .0) (c .edges .last .1 .1 .1 .1 .1 .0)
+
+good-edges : (c : tie.Else1) → Told (c .before) true
+good-edges c = subst (Told (c .before)) (not-false (c .before .edges .result) (c .if1 .left)) (c .before .edges .ensures)
 
 returns : tie.Need-returns
 returns c = answered (c .before .before .before .before .before .args .file .now) (c .refused .ensures) (refused-frame (subst (Framing _) (c .before .enum-told .given .1) (c .before .before .before .frame .ensures)))
@@ -70,20 +70,25 @@ returns-2 c =
     let f = k .before .before .before .before .before .args .file .now in
     answered f (c .refused2 .ensures) (refused-record (good-frame k .faultless) (subst (Listing f (k .before .roles .given .0 .0)) (c .before .enum-told2 .given .1) (c .before .before .before .listed .ensures)))
 
+blank-requires : tie.Need-blank-requires
+blank-requires c κs = search needs
+
+blank-requires-2 : tie.Need-blank-requires-2
+blank-requires-2 c κs = search needs
+
 edges-requires : tie.Need-edges-requires
-edges-requires c κs = (good-frame (c .before .before .before .before), good-roles c)
+edges-requires c κs =
+    let l = c .before .before .before .before in
+    (good-frame (l .before .before .before .before), good-roles l, c .before .before .before .blank .ensures, c .before .before .blank2 .ensures)
 
 refused-requires-3 : tie.Need-refused-requires-3
 refused-requires-3 c κs = search needs
 
 returns-3 : tie.Need-returns-3
 returns-3 c =
-    let l = c .before .before .before .before in
-    let k = l .before .before .before .before in
-    let f = k .before .before .before .before .before .args .file .now in
-    let e = c .before .before .before .edges .result in
-    answered f (c .refused3 .ensures) (refused-record (good-frame k .faultless)
-    (subst (λ (g : Bool). Entering f (k .before .roles .given .0 .0) (k .before .roles .given .0 .1 .0) (l .before .live .given .0 .0) g (e .i) (e .a)) (not-true (e .good) (c .before .if1 .taken)) (c .before .before .before .edges .ensures)))
+    let e = c .before .before in
+    let k = e .before .before .before .before .before .before .before .before .before in
+    answered (k .before .before .before .before .before .args .file .now) (c .refused3 .ensures) (refused-record (good-frame k .faultless) (subst (Told e) (not-true (e .edges .result) (c .before .if1 .taken)) (e .edges .ensures)))
 
 trouble-requires : tie.Need-trouble-requires
 trouble-requires c κs = search needs
@@ -93,8 +98,8 @@ refused-requires-4 c κs = search needs
 
 returns-4 : tie.Need-returns-4
 returns-4 c =
-    let s = c .before .before .before .before .before in
-    let l = s .before .before .before in
+    let s = c .before .before .before in
+    let l = s .before .before .before .before .before .before in
     let k = l .before .before .before .before in
     answered (k .before .before .before .before .before .args .file .now) (c .refused4 .ensures)
     (troubled (c .before .before .trouble .result) (good-frame k .faultless) (faultless (good-frame k) (good-roles l) (good-edges s)) (is-file (good-frame k) (good-roles l) (good-edges s))
@@ -102,8 +107,8 @@ returns-4 c =
 
 returns-5 : tie.Need-returns-5
 returns-5 c =
-    let s = c .before .before .before .before in
-    let l = s .before .before .before in
+    let s = c .before .before in
+    let l = s .before .before .before .before .before .before in
     let k = l .before .before .before .before in
     untroubled (c .before .trouble .result) (good-frame k .faultless) (faultless (good-frame k) (good-roles l) (good-edges s)) (is-file (good-frame k) (good-roles l) (good-edges s))
     (c .before .trouble .ensures) (omega arith) (joined (good-frame k) (good-roles l) (good-edges s)) (good-roles l .root)
@@ -122,6 +127,8 @@ read-spec =
     enum-told-2
     refused-requires-2
     returns-2
+    blank-requires
+    blank-requires-2
     edges-requires
     refused-requires-3
     returns-3

@@ -1,8 +1,7 @@
 use borrow.Author.Needs.{needs}
 use mathlib.Core.Path.{sym, subst, subst₂}
 use mathlib.Core.Logic.{⊎-elim}
-use mathlib.Core.List.{List}
-use Prim.Native.Nat.{ℕ, _-_, _<_}
+use Prim.Native.Nat.{_-_, _<_}
 use native.Mathlib.Omega.{arith}
 use borrow.Author.Tests.{not-true, not-false}
 use Rattle.boardfile.specs.Parts.{Judged, Right}
@@ -16,14 +15,10 @@ Inv-loop file n m live i₀ a₀ next₀ k₀ i a next k = SoFar file n m live k
 abbrev μ-loop : tie.MeasureT-loop
 μ-loop file n m live i₀ a₀ next₀ k₀ i a next k = m - k
 
-blank-requires : tie.Need-blank-requires Inv-loop μ-loop
-blank-requires c κs = search needs
-
-blank-requires-2 : tie.Need-blank-requires-2 Inv-loop μ-loop
-blank-requires-2 c κs = search needs
-
 loop-holds : tie.Need-loop-holds Inv-loop μ-loop
-loop-holds c = subst₂ (λ (i a : List ℕ). SoFar (c .before .before .before .args .file .now) (c .before .before .before .args .n) (c .before .before .before .args .m) (c .before .before .before .args .live) 0 0 i a) (sym (c .before .blank .ensures)) (sym (c .blank2 .ensures)) (edges-start _ _ _ _)
+loop-holds c =
+    let s = c .before in
+    subst₂ (SoFar (s .args .file .now) (s .args .n) (s .args .m) (s .args .live) 0 0) (sym (s .pre .2)) (sym (s .pre .3)) (edges-start _ _ _ _)
 
 mul-record : tie.Need-mul-record Inv-loop μ-loop
 mul-record c = omega arith
@@ -44,7 +39,8 @@ right-requires : tie.Need-right-requires Inv-loop μ-loop
 right-requires c κs = search needs
 
 returns : tie.Need-returns Inv-loop μ-loop
-returns c = let s = c .before .before .before .before .before .before .before .before in
+returns c =
+    let s = c .before .before .before .before .before .before in
     let l = c .before .before .before .before .loop in
     let e = c .before .before .«record» .result in
     ⊎-elim
@@ -55,50 +51,50 @@ returns c = let s = c .before .before .before .before .before .before .before .b
 -- past both tests the record is right
 is-right : (c : tie.Else2 Inv-loop μ-loop)
     → let e = c .before .before .before .before .«record» .result in
-    Right (c .before .before .before .before .before .before .before .before .before .before .args .live) (e .senior) (e .junior) (e .kind)
+    Right (c .before .before .before .before .before .before .before .before .args .live) (e .senior) (e .junior) (e .kind)
 is-right c =
     let e = c .before .before .before .before .«record» .result in
-    subst (Judged (c .before .before .before .before .before .before .before .before .before .before .args .live) (e .senior) (e .junior) (e .kind))
+    subst (Judged (c .before .before .before .before .before .before .before .before .args .live) (e .senior) (e .junior) (e .kind))
     (not-false (c .before .right .result) (c .if2 .left)) (c .before .right .ensures)
 
 fit : (c : tie.Else2 Inv-loop μ-loop) → c .before .before .before .before .«record» .result .senior < 64
 fit c =
-    let s = c .before .before .before .before .before .before .before .before .before .before in
+    let s = c .before .before .before .before .before .before .before .before in
     senior-fits (s .pre .0) (c .before .before .before .before .before .before .loop .inv) (c .before .before .before .before .before .loop-test .taken)
     (c .before .before .before .before .«record» .ensures) (s .pre .1 .fits) (is-right c)
 
 mul-entered : tie.Need-mul-entered Inv-loop μ-loop
 mul-entered c = let h = fit c in omega arith
 
-array-read-entered : tie.Need-array-read-entered Inv-loop μ-loop
-array-read-entered c = fit c
+element-copy-out-entered : tie.Need-element-copy-out-entered Inv-loop μ-loop
+element-copy-out-entered c = fit c
 
 entered-requires : tie.Need-entered-requires Inv-loop μ-loop
 entered-requires c κs = search needs
 
 mul-i : tie.Need-mul-i Inv-loop μ-loop
-mul-i c = let h = fit (c .before .before) in omega arith
+mul-i c = let h = fit (c .before .before .before) in omega arith
 
-array-write-i : tie.Need-array-write-i Inv-loop μ-loop
-array-write-i c = fit (c .before .before)
+element-write-i : tie.Need-element-write-i Inv-loop μ-loop
+element-write-i c = fit (c .before .before .before)
 
 mul-entered-2 : tie.Need-mul-entered-2 Inv-loop μ-loop
-mul-entered-2 c = let h = fit (c .before .before) in omega arith
+mul-entered-2 c = let h = fit (c .before .before .before) in omega arith
 
-array-read-entered-2 : tie.Need-array-read-entered-2 Inv-loop μ-loop
-array-read-entered-2 c = fit (c .before .before)
+element-copy-out-entered-2 : tie.Need-element-copy-out-entered-2 Inv-loop μ-loop
+element-copy-out-entered-2 c = fit (c .before .before .before)
 
 entered-requires-2 : tie.Need-entered-requires-2 Inv-loop μ-loop
 entered-requires-2 c κs = search needs
 
 mul-a : tie.Need-mul-a Inv-loop μ-loop
-mul-a c = let h = fit (c .before .before .before .before) in omega arith
+mul-a c = let h = fit (c .before .before .before .before .before .before) in omega arith
 
-array-write-a : tie.Need-array-write-a Inv-loop μ-loop
-array-write-a c = fit (c .before .before .before .before)
+element-write-a : tie.Need-element-write-a Inv-loop μ-loop
+element-write-a c = fit (c .before .before .before .before .before .before)
 
 add-next : tie.Need-add-next Inv-loop μ-loop
-add-next c = omega (arith, c .before .before .before .before .before .before .before .before .«record» .ensures .small)
+add-next c = omega (arith, c .before .before .before .before .before .before .before .before .before .before .«record» .ensures .small)
 
 add-k : tie.Need-add-k Inv-loop μ-loop
 add-k c = omega arith
@@ -107,11 +103,12 @@ loop-less : tie.Need-loop-less Inv-loop μ-loop
 loop-less c = omega arith
 
 loop-again : tie.Need-loop-again Inv-loop μ-loop
-loop-again c = let e = c .before .before .before .before in
-    let s = e .before .before .before .before .before .before .before .before .before .before in
+loop-again c =
+    let e = c .before .before .before .before .before .before in
+    let s = e .before .before .before .before .before .before .before .before in
     edges-turn (s .pre .0) (e .before .before .before .before .before .before .loop .inv) (e .before .before .before .before .before .loop-test .taken) (e .before .before .before .before .«record» .ensures)
-    (s .pre .1 .fits) (is-right e) (omega (arith, e .before .before .if1 .left)) (c .before .before .entered .result) (c .entered2 .result)
-    (omega (arith, c .before .before .entered .ok)) (omega (arith, c .entered2 .ok)) (c .before .before .entered .ensures) (c .entered2 .ensures)
+    (s .pre .1 .fits) (is-right e) (omega (arith, e .before .before .if1 .left)) (c .before .before .before .entered .result) (c .entered2 .result)
+    (omega (arith, c .before .before .before .entered .ok)) (omega (arith, c .entered2 .ok)) (c .before .before .before .entered .ensures) (c .entered2 .ensures)
 
 returns-2 : tie.Need-returns-2 Inv-loop μ-loop
 returns-2 c = edges-end (c .before .loop .inv) (c .loop-test .left)
@@ -122,8 +119,6 @@ edges-spec =
     (tie.spec
     Inv-loop
     μ-loop
-    blank-requires
-    blank-requires-2
     loop-holds
     mul-record
     add-record
@@ -133,15 +128,15 @@ edges-spec =
     right-requires
     returns
     mul-entered
-    array-read-entered
+    element-copy-out-entered
     entered-requires
     mul-i
-    array-write-i
+    element-write-i
     mul-entered-2
-    array-read-entered-2
+    element-copy-out-entered-2
     entered-requires-2
     mul-a
-    array-write-a
+    element-write-a
     add-next
     add-k
     loop-less
