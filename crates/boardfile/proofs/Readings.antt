@@ -19,14 +19,11 @@ use Rattle.board.specs.declared.Board.{Board}
 use Rattle.board.proofs.Rules.{stable, first-done}
 use Rattle.boardfile.specs.Files.{from, edgeBytes, kindAt, trailer, bytesOf, fileOf}
 use Rattle.boardfile.specs.Faults.{BadFrame, BadRecord}
-use Rattle.boardfile.specs.Parts.{GoodFrame, GoodRoles, GoodEdges}
+use Rattle.boardfile.specs.Parts.{GoodFrame, GoodRoles, GoodEdges, made}
 use Rattle.boardfile.specs.Answers.{IsFile, refusals, ReadAnswer}
 use Rattle.boardfile.proofs.Bytes.{whole}
 use Rattle.boardfile.proofs.Faultless.{Tidy, good-records}
 use Rattle.boardfile.proofs.OneFile.{at-place, one-board}
-
-abbrev pub made : ℕ → List ℕ → List ℕ → Board
-made live i a = record { live = live; i = i; a = a }
 
 -- ---- kinds
 

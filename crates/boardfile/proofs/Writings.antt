@@ -10,7 +10,7 @@ use lib.ListN.{length, drop, set, length-append, length-drop}
 use lib.Seq.{length-take-le}
 use borrow.Rule.Slice.PartMut.{midOf, putMid}
 use Rattle.sets.specs.Sets.{bit, same?, LowestRole, NoRole}
-use Rattle.hierarchy.specs.Tables.{Tables, tables, row, kindOf, kind}
+use Rattle.hierarchy.specs.Tables.{Tables, row, kindOf, kind}
 use Rattle.board.specs.Boards.{tablesOf}
 use Rattle.board.specs.declared.Board.{Board}
 use Rattle.boardfile.specs.Files.{from, edge?, edgeBytes, records, kindAt, trailer, bytesOf, fileOf}
@@ -141,11 +141,6 @@ module _ {x i a rest k : ℕ} {d out : List ℕ} (room : length (rowBytes x i a)
 row-is : (t : Tables) (x : ℕ) → edgeBytes (kindAt t) 64 (x * 64) ≡ rowBytes x (row (t .i) x) (row (t .a) x)
 unfolding rowBytes kindAt kind
 row-is t x = edge-same 64 (x * 64) (kindAt t) (rowKinds (row (t .i) x) (row (t .a) x)) (λ e l h. let q : e / 64 ≡ x = omega arith in rw q)
-
--- kinds are a matter of the tables, whoever lives
-pub any-live : (l m : ℕ) (i a : List ℕ) → kindAt (tables l i a) ≡ kindAt (tables m i a)
-unfolding kindAt kind
-any-live l m i a = refl
 
 pub record EdgesPut (t : Tables) (d out : List ℕ) (at x : ℕ) : Type 0 where
   pub put : Put (edgeBytes (kindAt t) (x * 64) 0) d out

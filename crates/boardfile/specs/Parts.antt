@@ -96,6 +96,14 @@ Entering f n m live false i a = BadRecord f
 
 -- ---- what the parts of the writer do
 
+-- the kinds at the places of two tables: unfolded, those of every board that has the two, whoever lives
+abbrev pub kindsIn : List ℕ → List ℕ → ℕ → ℕ
+kindsIn i a = kindAt (tables 0 i a)
+
+-- the board of these parts
+abbrev pub made : ℕ → List ℕ → List ℕ → Board
+made live i a = record { live = live; i = i; a = a }
+
 -- the bytes go to the front of what was there
 abbrev pub Put : List ℕ → List ℕ → List ℕ → Type 0
 Put bytes entry exit = exit ≡ bytes ++ drop (length bytes) entry

@@ -25,6 +25,7 @@ use reader::edges;
 use reader::listed;
 use sets::has;
 use sets::size;
+use writer::count_edges;
 pub use writer::edge_count;
 use writer::put_file;
 
@@ -81,12 +82,12 @@ pub fn write(b: Board, out: &mut [u8], at: usize) -> Written
         return Written { number: 1, len: 0 };
     }
     let roles = size(b.live) as usize;
-    let edges = 3 * edge_count(b);
+    let edges = 3 * count_edges(&b.i, &b.a);
     let len = roles + edges + TRAILER;
     if out.len() < at || out.len() - at < len {
         return Written { number: 12, len: 0 };
     }
-    put_file(b, roles, edges, &mut out[at..]);
+    put_file(b.live, &b.i, &b.a, roles, edges, &mut out[at..]);
     Written { number: 0, len }
 }
 

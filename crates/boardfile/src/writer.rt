@@ -6,7 +6,7 @@ ghost use Rattle.sets.specs.Sets.{bit};
 ghost use Rattle.hierarchy.specs.Tables.{kindOf};
 ghost use Rattle.board.specs.Boards.{tablesOf};
 ghost use Rattle.boardfile.specs.Files.{from, edge?, edgeBytes, kindAt, trailer, fileOf};
-ghost use Rattle.boardfile.specs.Parts.{rowBytes, Put, Room};
+ghost use Rattle.boardfile.specs.Parts.{kindsIn, made, rowBytes, Put, Room};
 use crate::frame::MARK;
 use board::Board;
 use sets::Pick;
@@ -16,12 +16,10 @@ use sets::size;
 use sets::union;
 use sets::without;
 
-// How many edges a board has.
-pub fn edge_count(b: Board) -> usize
-    ensures { λ r. ⌜ r ≡ length (from 4096 0 (edge? (kindAt (tablesOf b)))) ⌝ }
+// How many edges the two tables have.
+pub(crate) fn count_edges<'t>(i: &'t [u64; 64], a: &'t [u64; 64]) -> usize
+    ensures { λ r. ⌜ r ≡ length (from 4096 0 (edge? (kindsIn (now (i .entry)) (now (a .entry))))) ⌝ }
 {
-    let i = b.i;
-    let a = b.a;
     let mut n: usize = 0;
     let mut x: usize = 0;
     while x < 64 {
@@ -29,6 +27,13 @@ pub fn edge_count(b: Board) -> usize
         x += 1;
     }
     n
+}
+
+// How many edges a board has.
+pub fn edge_count(b: Board) -> usize
+    ensures { λ r. ⌜ r ≡ length (from 4096 0 (edge? (kindAt (tablesOf b)))) ⌝ }
+{
+    count_edges(&b.i, &b.a)
 }
 
 // The bytes of the live roles.
@@ -84,12 +89,10 @@ fn put_row(senior: usize, i: u64, a: u64, out: &mut [u8]) -> usize
 }
 
 // All edge records.
-pub(crate) fn put_edges(b: Board, out: &mut [u8])
-    requires { ⌜ length (edgeBytes (kindAt (tablesOf b)) 4096 0) ≤ length (now out) ⌝ }
-    ensures { λ _. ⌜ Put (edgeBytes (kindAt (tablesOf b)) 4096 0) (now (out .entry)) (now (out .exit)) ⌝ }
+pub(crate) fn put_edges<'t>(i: &'t [u64; 64], a: &'t [u64; 64], out: &mut [u8])
+    requires { ⌜ length (edgeBytes (kindsIn (now i) (now a)) 4096 0) ≤ length (now out) ⌝ }
+    ensures { λ _. ⌜ Put (edgeBytes (kindsIn (now (i .entry)) (now (a .entry))) 4096 0) (now (out .entry)) (now (out .exit)) ⌝ }
 {
-    let i = b.i;
-    let a = b.a;
     let mut at: usize = 0;
     let mut x: usize = 0;
     while x < 64 {
@@ -112,12 +115,19 @@ pub(crate) fn put_trailer(edges: usize, roles: usize, out: &mut [u8])
 }
 
 // The whole file of a board that has so many role bytes and so many bytes of edge records.
-pub(crate) fn put_file(b: Board, roles: usize, edges: usize, out: &mut [u8])
-    requires { ⌜ Room b roles edges (now out) ⌝ }
-    ensures { λ _. ⌜ Put (fileOf b) (now (out .entry)) (now (out .exit)) ⌝ }
+pub(crate) fn put_file<'t>(
+    live: u64,
+    i: &'t [u64; 64],
+    a: &'t [u64; 64],
+    roles: usize,
+    edges: usize,
+    out: &mut [u8],
+)
+    requires { ⌜ Room (made live (now i) (now a)) roles edges (now out) ⌝ }
+    ensures { λ _. ⌜ Put (fileOf (made live (now (i .entry)) (now (a .entry)))) (now (out .entry)) (now (out .exit)) ⌝ }
 {
     let body = roles + edges;
-    put_roles(b.live, &mut out[0..roles]);
-    put_edges(b, &mut out[roles..body]);
+    put_roles(live, &mut out[0..roles]);
+    put_edges(i, a, &mut out[roles..body]);
     put_trailer(edges, body, &mut out[body..]);
 }

@@ -7,7 +7,8 @@ use borrow.Author.Tests.{ltb-true, ltb-false, not-true, not-false}
 use Rattle.sets.proofs.Bools.{false-no}
 use Rattle.hierarchy.specs.Words.{Sound}
 use Rattle.board.specs.Boards.{tablesOf}
-use Rattle.boardfile.specs.Files.{fileOf}
+use Rattle.hierarchy.specs.Tables.{kind}
+use Rattle.boardfile.specs.Files.{from, edge?, kindAt, fileOf}
 use Rattle.boardfile.specs.Answers.{NoRoom.past-end, NoRoom.too-few}
 use Rattle.boardfile.proofs.Filed.{sizes-few, file-long, file-room, unsound-file, no-room, filed}
 use borrow.Author.Needs.{needs}
@@ -20,14 +21,19 @@ sound-requires c κs = search needs
 returns : tie.Need-returns
 returns c = unsound-file (λ h. false-no (not-true (c .before .sound .result) (c .if1 .taken)) (c .before .sound .ensures .1 h))
 
-is-sound : (c : tie.Else1) → Sound (tablesOf (c .before .before .before .args .b))
+is-sound : (c : tie.Else1) → Sound (tablesOf (c .before .before .before .args .t1))
 is-sound c = c .before .sound .ensures .0 (not-false (c .before .sound .result) (c .if1 .left))
 
-few : (c : tie.After-edge-count) → (c .before .size .result ≤ 64) × (c .edge-count .result ≤ 4096)
-few c = sizes-few (c .before .before .before .before .before .args .b) (is-sound (c .before .before) .shaped .live-fits) (c .before .size .ensures) (c .edge-count .ensures)
+-- kinds are a matter of the tables, whoever lives
+edges-are : (c : tie.After-count-edges) → c .count-edges .result ≡ length (from 4096 0 (edge? (kindAt (tablesOf (c .before .before .before .before .before .before .before .before .args .t1)))))
+unfolding kindAt kind
+edges-are c = c .count-edges .ensures
 
-long : (c : tie.After-edge-count) → c .before .size .result + 3 * c .edge-count .result + 6 ≡ length (fileOf (c .before .before .before .before .before .args .b))
-long c = file-long (c .before .before .before .before .before .args .b) (is-sound (c .before .before) .shaped .live-fits) (c .before .size .ensures) (c .edge-count .ensures)
+few : (c : tie.After-count-edges) → (c .before .before .before .before .size .result ≤ 64) × (c .count-edges .result ≤ 4096)
+few c = sizes-few (c .before .before .before .before .before .before .before .before .args .t1) (is-sound (c .before .before .before .before .before) .shaped .live-fits) (c .before .before .before .before .size .ensures) (edges-are c)
+
+long : (c : tie.After-count-edges) → c .before .before .before .before .size .result + 3 * c .count-edges .result + 6 ≡ length (fileOf (c .before .before .before .before .before .before .before .before .args .t1))
+long c = file-long (c .before .before .before .before .before .before .before .before .args .t1) (is-sound (c .before .before .before .before .before) .shaped .live-fits) (c .before .before .before .before .size .ensures) (edges-are c)
 
 size-requires : tie.Need-size-requires
 size-requires c κs = search needs
@@ -35,8 +41,8 @@ size-requires c κs = search needs
 cast-roles : tie.Need-cast-roles
 cast-roles c = search needs
 
-edge-count-requires : tie.Need-edge-count-requires
-edge-count-requires c κs = search needs
+count-edges-requires : tie.Need-count-edges-requires
+count-edges-requires c κs = search needs
 
 mul-edges : tie.Need-mul-edges
 mul-edges c = let h = few c in omega arith
@@ -52,8 +58,8 @@ sub-if3 c = search needs
 
 returns-2 : tie.Need-returns-2
 returns-2 c =
-    let s = c .before .before .before .before .before .before in
-    no-room (is-sound (c .before .before .before)) (⊎-elim
+    let s = c .before .before .before .before .before .before .before .before .before in
+    no-room (is-sound (c .before .before .before .before .before .before)) (⊎-elim
     (λ w. past-end (w .taken))
     (λ w. too-few (subst (λ (n : ℕ). length (s .args .out .now) - s .args .at < n) (long (c .before)) (ltb-true _ _ (w .1 .taken))))
     (c .if2 .came))
@@ -69,10 +75,10 @@ part-put-file-end c = search needs
 
 put-file-requires : tie.Need-put-file-requires
 put-file-requires c κs =
-    let n = c .before .before .before in
-    let s = n .before .before .before .before .before in
-    file-room (s .args .b) (is-sound (n .before .before) .shaped .live-fits) (n .before .size .ensures) (n .edge-count .ensures) (s .args .out .now) (s .args .at)
-    (c .before .before .if2 .left) (ltb-false _ _ (c .before .if3 .left))
+    let n = c .before .before .before .before .before .before in
+    let s = n .before .before .before .before .before .before .before .before in
+    file-room (s .args .t1) (is-sound (n .before .before .before .before .before) .shaped .live-fits) (n .before .before .before .before .size .ensures) (edges-are n) (s .args .out .now) (s .args .at)
+    (c .before .before .before .before .before .if2 .left) (ltb-false _ _ (c .before .before .before .before .if3 .left))
 
 same-length : tie.Need-same-length
 same-length c = search needs
@@ -80,8 +86,8 @@ same-length c = search needs
 returns-3 : tie.Need-returns-3
 returns-3 c =
     let w = c .before .before in
-    let n = w .before .before .before .before in
-    filed (is-sound (n .before .before)) _ (long n) (w .before .before .before .if2 .left) (ltb-false _ _ (w .before .before .if3 .left)) (w .put-file .last .1 .1 .1 .0) (w .put-file .ensures)
+    let n = w .before .before .before .before .before .before .before in
+    filed (is-sound (n .before .before .before .before .before)) _ (long n) (w .before .before .before .before .before .before .if2 .left) (ltb-false _ _ (w .before .before .before .before .before .if3 .left)) (w .put-file .last .1 .1 .1 .1 .1 .0) (w .put-file .ensures)
 
 pub write-spec : {M : Type 1} → statement M
 write-spec =
@@ -91,7 +97,7 @@ write-spec =
     returns
     size-requires
     cast-roles
-    edge-count-requires
+    count-edges-requires
     mul-edges
     add-len
     add-len-2

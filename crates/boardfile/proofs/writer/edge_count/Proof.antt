@@ -1,73 +1,15 @@
+use Rattle.hierarchy.specs.Tables.{kind}
+use Rattle.boardfile.specs.Files.{kindAt}
 use borrow.Author.Needs.{needs}
-use Prim.Native.Nat.{ℕ, _-_}
-use native.Mathlib.Omega.{arith}
-use mathlib.Core.Path.{sym, _∙_}
-use Rattle.hierarchy.specs.Tables.{tables}
-use Rattle.boardfile.proofs.Counts.{Counted, count-start, count-few, count-turn, count-end, row-count}
 use Rattle.boardfile.proofs.writer.edge_count.Statement.{statement}
 use Rattle.boardfile.proofs.writer.edge_count.Tie as tie
 
-abbrev Inv-loop : tie.InvT-loop
-Inv-loop i a n₀ x₀ n x = ((live : ℕ) → Counted (tables live i a) n x)
+count-edges-requires : tie.Need-count-edges-requires
+count-edges-requires c κs = search needs
 
-abbrev μ-loop : tie.MeasureT-loop
-μ-loop i a n₀ x₀ n x = 64 - x
-
-loop-holds : tie.Need-loop-holds Inv-loop μ-loop
-loop-holds c = λ live. count-start _
-
-mul-union : tie.Need-mul-union Inv-loop μ-loop
-mul-union c = omega arith
-
-array-read-union : tie.Need-array-read-union Inv-loop μ-loop
-array-read-union c = omega arith
-
-mul-union-2 : tie.Need-mul-union-2 Inv-loop μ-loop
-mul-union-2 c = omega arith
-
-array-read-union-2 : tie.Need-array-read-union-2 Inv-loop μ-loop
-array-read-union-2 c = omega arith
-
-union-requires : tie.Need-union-requires Inv-loop μ-loop
-union-requires c κs = search needs
-
-size-requires : tie.Need-size-requires Inv-loop μ-loop
-size-requires c κs = search needs
-
-cast-n : tie.Need-cast-n Inv-loop μ-loop
-cast-n c = omega (arith, c .size .ok)
-
-add-n : tie.Need-add-n Inv-loop μ-loop
-add-n c = let h = count-few (c .before .before .before .loop .inv 0) in omega (arith, c .size .ok)
-
-add-x : tie.Need-add-x Inv-loop μ-loop
-add-x c = omega arith
-
-loop-less : tie.Need-loop-less Inv-loop μ-loop
-loop-less c = omega arith
-
-loop-again : tie.Need-loop-again Inv-loop μ-loop
-loop-again c = λ live. count-turn (c .before .before .before .loop .inv live) (c .before .before .loop-test .taken) (c .size .result) (row-count _ _ (c .before .union .result) (omega (arith, c .before .union .ok)) (c .before .union .ensures) ∙ sym (c .size .ensures))
-
-returns : tie.Need-returns Inv-loop μ-loop
-returns c = count-end (c .before .loop .inv _) (c .loop-test .left)
+returns : tie.Need-returns
+unfolding kindAt kind
+returns c = c .count-edges .ensures
 
 pub edge-count-spec : {M : Type 1} → statement M
-edge-count-spec =
-    tie.close
-    (tie.spec
-    Inv-loop
-    μ-loop
-    loop-holds
-    mul-union
-    array-read-union
-    mul-union-2
-    array-read-union-2
-    union-requires
-    size-requires
-    cast-n
-    add-n
-    add-x
-    loop-less
-    loop-again
-    returns)
+edge-count-spec = tie.close (tie.spec count-edges-requires returns)
