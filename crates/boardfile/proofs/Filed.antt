@@ -15,7 +15,7 @@ use Rattle.board.specs.Boards.{tablesOf}
 use Rattle.board.specs.declared.Board.{Board}
 use Rattle.boardfile.specs.Files.{from, edge?, edgeBytes, kindAt, bytesOf, fileOf}
 use Rattle.boardfile.specs.Parts.{Put, Room}
-use Rattle.boardfile.specs.Answers.{NoRoom, NoRoom.past-end, NoRoom.too-few, WriteAnswer}
+use Rattle.boardfile.specs.Answers.{NoRoom, NoRoom.past-end, NoRoom.too-few, PutAnswer, WriteAnswer}
 use Rattle.boardfile.proofs.Ascending.{from-short}
 use Rattle.boardfile.proofs.Bytes.{records-length, whole-length}
 use Rattle.boardfile.proofs.Counts.{ones-from}
@@ -52,25 +52,24 @@ module _ {b : Board} {entry : List ℕ} {at : ℕ} where
   unfolding First
   unsound-file h = record { numbered = inl (h, refl); done = λ e. absurd (omega arith); refused = λ _. (refl, refl) }
 
-  module _ (sound : Sound (tablesOf b)) where
-    pub no-room : NoRoom b entry at → WriteAnswer b entry at entry 12 0
-    unfolding First
-    no-room h = record { numbered = inr (λ n. n sound, inl (h, refl)); done = λ e. absurd (omega arith); refused = λ _. (refl, refl) }
+  pub no-room : NoRoom b entry at → PutAnswer b entry at entry 12 0
+  unfolding First
+  no-room h = record { numbered = inl (h, refl); done = λ e. absurd (omega arith); refused = λ _. (refl, refl) }
 
-    pub filed : (len : ℕ) → len ≡ length (fileOf b) → at ≤ length entry → len ≤ length entry - at
-        → (part : List ℕ) → Put (fileOf b) (midOf at (length entry - at) entry) part → WriteAnswer b entry at (putMid at (length entry - at) entry part) 0 len
-    unfolding First
-    filed len e l h part p = record { numbered = inr (λ n. n sound, inr (room, refl)); done = λ _. (e, bytes); refused = λ n. absurd (n refl) }
-      where
-        room : NoRoom b entry at → ⊥
-        room (past-end g) = omega arith
-        room (too-few g) = omega arith
+  pub filed : (len : ℕ) → len ≡ length (fileOf b) → at ≤ length entry → len ≤ length entry - at
+      → (part : List ℕ) → Put (fileOf b) (midOf at (length entry - at) entry) part → PutAnswer b entry at (putMid at (length entry - at) entry part) 0 len
+  unfolding First
+  filed len e l h part p = record { numbered = inr (room, refl); done = λ _. (e, bytes); refused = λ n. absurd (n refl) }
+    where
+      room : NoRoom b entry at → ⊥
+      room (past-end g) = omega arith
+      room (too-few g) = omega arith
 
-        front : length (take at entry) ≡ at
-        front = length-take-le at entry l
+      front : length (take at entry) ≡ at
+      front = length-take-le at entry l
 
-        bytes : putMid at (length entry - at) entry part ≡ take at entry ++ fileOf b ++ drop (at + length (fileOf b)) entry
-        bytes =
-            put-part (take at entry) (fileOf b) entry entry part at (length entry - at)
-            (sym (take-append-drop at entry) ∙ ap (λ (n : ℕ). take at entry ++ drop n entry) (sym front)) (sym front) (omega arith) (omega arith) p
-            ∙ ap (λ (n : ℕ). take at entry ++ fileOf b ++ drop n entry) (length-append (take at entry) (fileOf b) ∙ ap (λ (n : ℕ). n + length (fileOf b)) front)
+      bytes : putMid at (length entry - at) entry part ≡ take at entry ++ fileOf b ++ drop (at + length (fileOf b)) entry
+      bytes =
+          put-part (take at entry) (fileOf b) entry entry part at (length entry - at)
+          (sym (take-append-drop at entry) ∙ ap (λ (n : ℕ). take at entry ++ drop n entry) (sym front)) (sym front) (omega arith) (omega arith) p
+          ∙ ap (λ (n : ℕ). take at entry ++ fileOf b ++ drop n entry) (length-append (take at entry) (fileOf b) ∙ ap (λ (n : ℕ). n + length (fileOf b)) front)

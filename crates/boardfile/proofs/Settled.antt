@@ -8,7 +8,7 @@ use Rattle.hierarchy.specs.First.{First}
 use Rattle.hierarchy.proofs.FirstLaws.{first-unique}
 use Rattle.board.specs.declared.Board.{Board}
 use Rattle.boardfile.specs.Files.{stretchOf, startOf}
-use Rattle.boardfile.specs.Answers.{refusals, ReadAnswer, stretchRefusals, StretchAnswer, BoundsAnswer, writeRefusals, WriteAnswer}
+use Rattle.boardfile.specs.Answers.{refusals, ReadAnswer, stretchRefusals, StretchAnswer, BoundsAnswer, Placed, Unplaced, putRefusals, PutAnswer, writeRefusals, WriteAnswer}
 use Rattle.boardfile.proofs.OneFile.{one-board}
 
 -- by whether the common number is 0
@@ -25,14 +25,22 @@ read-unique {f} {m} {n} r s =
           (λ z. r .refused z ∙ sym (s .refused (λ w. z (e ∙ w)))),
     )
 
--- write: the number, the length and the whole buffer
+-- put and write: the number, the length and the whole buffer
+outcome : (b : Board) (entry : List ℕ) (at m n : ℕ) {j k : ℕ} {x y : List ℕ} → m ≡ n
+    → (m ≡ 0 → Placed b entry at x j) → (m ≢ 0 → Unplaced entry x j) → (n ≡ 0 → Placed b entry at y k) → (n ≢ 0 → Unplaced entry y k)
+    → (m ≡ n) × (j ≡ k) × (x ≡ y)
+outcome b entry at m n e done refused done′ refused′ =
+    by-number m
+    (λ z. let p = done z in let q = done′ (sym e ∙ z) in (e, p .0 ∙ sym (q .0), p .1 ∙ sym (q .1)))
+    (λ z. let p = refused z in let q = refused′ (λ w. z (e ∙ w)) in (e, p .0 ∙ sym (q .0), p .1 ∙ sym (q .1)))
+
+pub put-unique : {b : Board} {entry : List ℕ} {at m n j k : ℕ} {x y : List ℕ} → PutAnswer b entry at x m j → PutAnswer b entry at y n k
+    → (m ≡ n) × (j ≡ k) × (x ≡ y)
+put-unique {b} {entry} {at} {m} {n} r s = outcome b entry at m n (first-unique (putRefusals b entry at) m n (r .numbered) (s .numbered)) (r .done) (r .refused) (s .done) (s .refused)
+
 pub write-unique : {b : Board} {entry : List ℕ} {at m n j k : ℕ} {x y : List ℕ} → WriteAnswer b entry at x m j → WriteAnswer b entry at y n k
     → (m ≡ n) × (j ≡ k) × (x ≡ y)
-write-unique {b} {entry} {at} {m} {n} r s =
-    let e = first-unique (writeRefusals b entry at) m n (r .numbered) (s .numbered) in
-    by-number m
-    (λ z. let p = r .done z in let q = s .done (sym e ∙ z) in (e, p .0 ∙ sym (q .0), p .1 ∙ sym (q .1)))
-    (λ z. let p = r .refused z in let q = s .refused (λ w. z (e ∙ w)) in (e, p .0 ∙ sym (q .0), p .1 ∙ sym (q .1)))
+write-unique {b} {entry} {at} {m} {n} r s = outcome b entry at m n (first-unique (writeRefusals b entry at) m n (r .numbered) (s .numbered)) (r .done) (r .refused) (s .done) (s .refused)
 
 -- stretch_number
 pub stretch-number-unique : (f : List ℕ) (role m n : ℕ) → First (stretchRefusals f role) m → First (stretchRefusals f role) n → m ≡ n

@@ -1,7 +1,7 @@
 -- What holds of board files, for a reader who starts here. A sound board has one file, of at most 6,118 bytes; it is read back as that
 -- board, and nothing else is accepted. Assumes nothing.
 use mathlib.Core.Path.{_≡_, refl, sym, ap, _∙_, subst}
-use mathlib.Core.Logic.{⊎-elim, _↔_, _≢_}
+use mathlib.Core.Logic.{inr, ⊎-elim, _↔_, _≢_}
 use mathlib.Core.List.{List, [], _++_, append-assoc}
 use Prim.Native.Nat.{ℕ, _+_, _-_, _/_, _%_, _≤_, _<_}
 use native.Mathlib.Omega.{arith}
@@ -17,7 +17,7 @@ use Rattle.board.specs.declared.Board.{Board}
 use Rattle.board.proofs.Rules.{Passed, first-done, first-next}
 use Rattle.boardfile.specs.Files.{from, edge?, edgeBytes, kindAt, bytesOf, fileOf, stretchOf, startOf}
 use Rattle.boardfile.specs.Faults.{BadFrame, BadRecord}
-use Rattle.boardfile.specs.Answers.{IsFile, refusals, ReadAnswer, writeRefusals, WriteAnswer, NoRoom.past-end}
+use Rattle.boardfile.specs.Answers.{IsFile, refusals, ReadAnswer, PutAnswer, writeRefusals, WriteAnswer, NoRoom.past-end}
 use Rattle.boardfile.proofs.Ascending.{from-short}
 use Rattle.boardfile.proofs.Bytes.{records-length, whole-length}
 use Rattle.boardfile.proofs.Faultless.{Tidy, good-frame, good-records}
@@ -117,6 +117,11 @@ faultless-file {board = board} r frame record′ = ⊎-elim
     (r .numbered)
 
 -- ---- what is written
+
+-- of a sound board, what `put` answers `write` may answer
+pub put-writes : {b : Board} {entry exit : List ℕ} {at number len : ℕ} → Sound (tablesOf b) → PutAnswer b entry at exit number len → WriteAnswer b entry at exit number len
+unfolding First
+put-writes sound p = record { numbered = inr (λ n. n sound, p .numbered); done = p .done; refused = p .refused }
 
 -- the bytes at the place, so many as the writer says, are the file of the board; reading them gives the board back
 pub written-file : {b : Board} {entry exit : List ℕ} {at len : ℕ} → WriteAnswer b entry at exit 0 len → take len (drop at exit) ≡ fileOf b

@@ -62,11 +62,28 @@ pub data NoRoom (b : Board) (entry : List ℕ) (at : ℕ) : Type 0 where
   past-end : length entry < at → NoRoom b entry at
   too-few : length entry - at < length (fileOf b) → NoRoom b entry at
 
-abbrev pub writeRefusals : Board → List ℕ → ℕ → List (ℕ × Type 0)
-writeRefusals b entry at = (1, (Sound (tablesOf b) → ⊥)) ∷ (12, NoRoom b entry at) ∷ []
+-- the file stands there, and the bytes before it and after it stay
+abbrev pub Placed : Board → List ℕ → ℕ → List ℕ → ℕ → Type 0
+Placed b entry at exit len = (len ≡ length (fileOf b)) × (exit ≡ take at entry ++ fileOf b ++ drop (at + length (fileOf b)) entry)
 
--- done puts the file there, and the bytes before it and after it stay; a refusal changes none
+-- no byte is changed
+abbrev pub Unplaced : List ℕ → List ℕ → ℕ → Type 0
+Unplaced entry exit len = (len ≡ 0) × (exit ≡ entry)
+
+abbrev pub putRefusals : Board → List ℕ → ℕ → List (ℕ × Type 0)
+putRefusals b entry at = (12, NoRoom b entry at) ∷ []
+
+-- any board, sound or not: done puts the file there, a refusal changes nothing
+pub record PutAnswer (b : Board) (entry : List ℕ) (at : ℕ) (exit : List ℕ) (number len : ℕ) : Type 0 where
+  pub numbered : First (putRefusals b entry at) number
+  pub done : number ≡ 0 → Placed b entry at exit len
+  pub refused : number ≢ 0 → Unplaced entry exit len
+
+abbrev pub writeRefusals : Board → List ℕ → ℕ → List (ℕ × Type 0)
+writeRefusals b entry at = (1, (Sound (tablesOf b) → ⊥)) ∷ putRefusals b entry at
+
+-- the same for a sound board, and every other refused first
 pub record WriteAnswer (b : Board) (entry : List ℕ) (at : ℕ) (exit : List ℕ) (number len : ℕ) : Type 0 where
   pub numbered : First (writeRefusals b entry at) number
-  pub done : number ≡ 0 → (len ≡ length (fileOf b)) × (exit ≡ take at entry ++ fileOf b ++ drop (at + length (fileOf b)) entry)
-  pub refused : number ≢ 0 → (len ≡ 0) × (exit ≡ entry)
+  pub done : number ≡ 0 → Placed b entry at exit len
+  pub refused : number ≢ 0 → Unplaced entry exit len

@@ -10,7 +10,7 @@ mod writer;
 ghost use mathlib.Core.Path.{_≡_};
 ghost use Rattle.board.specs.Boards.{foundingBoard};
 ghost use Rattle.hierarchy.specs.First.{First};
-ghost use Rattle.boardfile.specs.Answers.{ReadAnswer, WriteAnswer, stretchRefusals, BoundsAnswer, StretchAnswer};
+ghost use Rattle.boardfile.specs.Answers.{ReadAnswer, PutAnswer, WriteAnswer, stretchRefusals, BoundsAnswer, StretchAnswer};
 ghost use Rattle.boardfile.specs.Parts.{Asked};
 use board::Board;
 use board::checks::sound;
@@ -74,13 +74,10 @@ pub struct Written {
     pub len: usize,
 }
 
-// The file of a board into a buffer, from a place on.
-pub fn write(b: Board, out: &mut [u8], at: usize) -> Written
-    ensures { λ r. ⌜ WriteAnswer b (now (out .entry)) at (now (out .exit)) (r .number) (r .len) ⌝ }
+// The file of a board, sound or not, into a buffer, from a place on.
+pub fn put(b: Board, out: &mut [u8], at: usize) -> Written
+    ensures { λ r. ⌜ PutAnswer b (now (out .entry)) at (now (out .exit)) (r .number) (r .len) ⌝ }
 {
-    if !sound(b) {
-        return Written { number: 1, len: 0 };
-    }
     let roles = size(b.live) as usize;
     let edges = 3 * count_edges(&b.i, &b.a);
     let len = roles + edges + TRAILER;
@@ -89,6 +86,16 @@ pub fn write(b: Board, out: &mut [u8], at: usize) -> Written
     }
     put_file(b.live, &b.i, &b.a, roles, edges, &mut out[at..]);
     Written { number: 0, len }
+}
+
+// The same for a sound board; any other is refused.
+pub fn write(b: Board, out: &mut [u8], at: usize) -> Written
+    ensures { λ r. ⌜ WriteAnswer b (now (out .entry)) at (now (out .exit)) (r .number) (r .len) ⌝ }
+{
+    if !sound(b) {
+        return Written { number: 1, len: 0 };
+    }
+    put(b, out, at)
 }
 
 // The number of a question about one role of a file, by what was read.

@@ -1,16 +1,7 @@
-use mathlib.Core.Path.{_≡_, subst}
-use mathlib.Core.Logic.{⊎-elim}
-use Prim.Native.Nat.{ℕ, _+_, _-_, _*_, _≤_, _<_}
-use native.Mathlib.Omega.{arith}
-use lib.ListN.{length}
-use borrow.Author.Tests.{ltb-true, ltb-false, not-true, not-false}
+use borrow.Author.Tests.{not-true, not-false}
 use Rattle.sets.proofs.Bools.{false-no}
-use Rattle.hierarchy.specs.Words.{Sound}
-use Rattle.board.specs.Boards.{tablesOf}
-use Rattle.hierarchy.specs.Tables.{kind}
-use Rattle.boardfile.specs.Files.{from, edge?, kindAt, fileOf}
-use Rattle.boardfile.specs.Answers.{NoRoom.past-end, NoRoom.too-few}
-use Rattle.boardfile.proofs.Filed.{sizes-few, file-long, file-room, unsound-file, no-room, filed}
+use Rattle.boardfile.proofs.Filed.{unsound-file}
+use Rattle.boardfile.proofs.Theorems.{put-writes}
 use borrow.Author.Needs.{needs}
 use Rattle.boardfile.proofs.write.Statement.{statement}
 use Rattle.boardfile.proofs.write.Tie as tie
@@ -21,91 +12,16 @@ sound-requires c κs = search needs
 returns : tie.Need-returns
 returns c = unsound-file (λ h. false-no (not-true (c .before .sound .result) (c .if1 .taken)) (c .before .sound .ensures .1 h))
 
-is-sound : (c : tie.Else1) → Sound (tablesOf (c .before .before .before .args .t1))
-is-sound c = c .before .sound .ensures .0 (not-false (c .before .sound .result) (c .if1 .left))
-
--- kinds are a matter of the tables, whoever lives
-edges-are : (c : tie.After-count-edges) → c .count-edges .result ≡ length (from 4096 0 (edge? (kindAt (tablesOf (c .before .before .before .before .before .before .before .before .args .t1)))))
-unfolding kindAt kind
-edges-are c = c .count-edges .ensures
-
-few : (c : tie.After-count-edges) → (c .before .before .before .before .size .result ≤ 64) × (c .count-edges .result ≤ 4096)
-few c = sizes-few (c .before .before .before .before .before .before .before .before .args .t1) (is-sound (c .before .before .before .before .before) .shaped .live-fits) (c .before .before .before .before .size .ensures) (edges-are c)
-
-long : (c : tie.After-count-edges) → c .before .before .before .before .size .result + 3 * c .count-edges .result + 6 ≡ length (fileOf (c .before .before .before .before .before .before .before .before .args .t1))
-long c = file-long (c .before .before .before .before .before .before .before .before .args .t1) (is-sound (c .before .before .before .before .before) .shaped .live-fits) (c .before .before .before .before .size .ensures) (edges-are c)
-
-size-requires : tie.Need-size-requires
-size-requires c κs = search needs
-
-cast-roles : tie.Need-cast-roles
-cast-roles c = search needs
-
-count-edges-requires : tie.Need-count-edges-requires
-count-edges-requires c κs = search needs
-
-mul-edges : tie.Need-mul-edges
-mul-edges c = let h = few c in omega arith
-
-add-len : tie.Need-add-len
-add-len c = let h = few c in omega arith
-
-add-len-2 : tie.Need-add-len-2
-add-len-2 c = let h = few c in omega arith
-
-sub-if3 : tie.Need-sub-if3
-sub-if3 c = search needs
-
-returns-2 : tie.Need-returns-2
-returns-2 c =
-    let s = c .before .before .before .before .before .before .before .before .before in
-    no-room (is-sound (c .before .before .before .before .before .before)) (⊎-elim
-    (λ w. past-end (w .taken))
-    (λ w. too-few (subst (λ (n : ℕ). length (s .args .out .now) - s .args .at < n) (long (c .before)) (ltb-true _ _ (w .1 .taken))))
-    (c .if2 .came))
-
-sub-put-file : tie.Need-sub-put-file
-sub-put-file c = search needs
-
-part-put-file-start : tie.Need-part-put-file-start
-part-put-file-start c = search needs
-
-part-put-file-end : tie.Need-part-put-file-end
-part-put-file-end c = search needs
-
-put-file-requires : tie.Need-put-file-requires
-put-file-requires c κs =
-    let n = c .before .before .before .before .before .before in
-    let s = n .before .before .before .before .before .before .before .before in
-    file-room (s .args .t1) (is-sound (n .before .before .before .before .before) .shaped .live-fits) (n .before .before .before .before .size .ensures) (edges-are n) (s .args .out .now) (s .args .at)
-    (c .before .before .before .before .before .if2 .left) (ltb-false _ _ (c .before .before .before .before .if3 .left))
+put-requires : tie.Need-put-requires
+put-requires c κs = search needs
 
 same-length : tie.Need-same-length
 same-length c = search needs
 
-returns-3 : tie.Need-returns-3
-returns-3 c =
-    let w = c .before .before in
-    let n = w .before .before .before .before .before .before .before in
-    filed (is-sound (n .before .before .before .before .before)) _ (long n) (w .before .before .before .before .before .before .if2 .left) (ltb-false _ _ (w .before .before .before .before .before .if3 .left)) (w .put-file .last .1 .1 .1 .1 .1 .0) (w .put-file .ensures)
+returns-2 : tie.Need-returns-2
+returns-2 c =
+    let e = c .before .before .before .before in
+    put-writes (e .before .sound .ensures .0 (not-false (e .before .sound .result) (e .if1 .left))) (c .before .before .put .ensures)
 
 pub write-spec : {M : Type 1} → statement M
-write-spec =
-    tie.close
-    (tie.spec
-    sound-requires
-    returns
-    size-requires
-    cast-roles
-    count-edges-requires
-    mul-edges
-    add-len
-    add-len-2
-    sub-if3
-    returns-2
-    sub-put-file
-    part-put-file-start
-    part-put-file-end
-    put-file-requires
-    same-length
-    returns-3)
+write-spec = tie.close (tie.spec sound-requires returns put-requires same-length returns-2)
