@@ -27,7 +27,7 @@ own f role = (2, 63 < role) ∷ (3, ((b : Board) × IsFile f b × (Live (tablesO
 in-range : (f : List ℕ) (role : ℕ) → First (stretchRefusals f role) 0 → role < 64
 in-range f role h = let passed = first-done (stretchRefusals f role) refl h in omega (arith, passed .1 .1 .1 .1 .0)
 
-module _ {f : List ℕ} {board : Board} (number role r : ℕ) (a : ReadAnswer f number board) (k : Asked number board role r) where
+module _ {f : List ℕ} {board : Board} (number role r : ℕ) (a : ReadAnswer f number board) (k : Asked number (board .live) role r) where
   past-reading : number ≡ 0 → First (own f role) r
   unfolding First
   past-reading e = ⊎-elim inl

@@ -127,6 +127,6 @@ pub record Below (f : List ℕ) (m s r : ℕ) : Type 0 where
   pub upper : r < m → s ≤ senior f r
 
 -- the number of a stretch, by what the reader answered: its refusal, or else 2, or 3, or none
-pub record Asked (number : ℕ) (board : Board) (role r : ℕ) : Type 0 where
+pub record Asked (number live role r : ℕ) : Type 0 where
   pub kept : number ≢ 0 → r ≡ number
-  pub own : number ≡ 0 → First ((2, 63 < role) ∷ (3, (role ∈ board .live → ⊥)) ∷ []) r
+  pub own : number ≡ 0 → First ((2, 63 < role) ∷ (3, (role ∈ live → ⊥)) ∷ []) r

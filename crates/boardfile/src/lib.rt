@@ -98,18 +98,17 @@ pub fn write(b: Board, out: &mut [u8], at: usize) -> Written
     put(b, out, at)
 }
 
-// The number of a question about one role of a file, by what was read.
-fn asked(reading: Reading, role: u8) -> u8
-    ensures { λ r. ⌜ Asked (reading .number) (reading .board) role r ⌝ }
+// The number of a question about one role of a file: the reader's refusal, or else one by the live roles.
+fn asked(refusal: u8, live: u64, role: u8) -> u8
+    ensures { λ r. ⌜ Asked refusal live role r ⌝ }
 {
-    let board = reading.board;
-    if reading.number != 0 {
-        return reading.number;
+    if refusal != 0 {
+        return refusal;
     }
     if 63 < role {
         return 2;
     }
-    if !has(board.live, role as usize) {
+    if !has(live, role as usize) {
         return 3;
     }
     0
@@ -119,7 +118,8 @@ fn asked(reading: Reading, role: u8) -> u8
 pub fn stretch_number(file: &[u8], role: u8) -> u8
     ensures { λ r. ⌜ First (stretchRefusals (now (file .entry)) role) r ⌝ }
 {
-    asked(read(file), role)
+    let reading = read(file);
+    asked(reading.number, reading.board.live, role)
 }
 
 // Where the edge records of one senior begin and end in the file; 0 and 0 with a refusal.
@@ -138,7 +138,8 @@ pub fn bounds(file: &[u8], role: u8) -> Span
     else {
         return Span { start: 0, end: 0 };
     };
-    if asked(read(file), role) != 0 {
+    let reading = read(file);
+    if asked(reading.number, reading.board.live, role) != 0 {
         return Span { start: 0, end: 0 };
     }
     let senior = role as usize;
