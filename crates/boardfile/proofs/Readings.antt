@@ -2,10 +2,10 @@
 use mathlib.Core.Path.{_≡_, refl, sym, ap, ap₂, _∙_, subst}
 use mathlib.Core.Bool.{Bool, true, false}
 use mathlib.Core.Logic.{inl, inr, ⊎-elim, _≢_}
-use mathlib.Core.List.{List, _++_, append-assoc}
+use mathlib.Core.List.{List, [], _∷_, _++_, append-assoc}
 use Prim.Native.Nat.{ℕ, _+_, _*_, _/_, _%_, _^_, _≤_, _<_}
 use native.Mathlib.Omega.{arith}
-use lib.ListN.{length, drop, take-append-drop, length-drop}
+use lib.ListN.{length, drop, replicate, take-append-drop, length-drop}
 use lib.Seq.{length-take-le, drop-drop}
 use Rattle.sets.specs.Sets.{bit}
 use Rattle.sets.proofs.Bools.{lt-or-ge}
@@ -14,13 +14,15 @@ use Rattle.hierarchy.specs.Tables.{Tables, tables, row, Live, Shaped, kindOf, k
 use Rattle.hierarchy.specs.Words.{Joined, Loops, Managed, Sound}
 use Rattle.hierarchy.specs.First.{First}
 use Rattle.hierarchy.proofs.Decide.{managed-dec}
-use Rattle.board.specs.Boards.{tablesOf, foundingBoard, troubles}
+use Rattle.board.specs.Boards.{tablesOf, boardOf, foundingBoard}
+use Rattle.board.specs.Looks.{HasViews, Weighed}
 use Rattle.board.specs.declared.Board.{Board}
 use Rattle.board.proofs.Rules.{stable, first-done}
+use Rattle.board.proofs.Looking.{troubles-joined}
 use Rattle.boardfile.specs.Files.{from, edgeBytes, kindAt, trailer, bytesOf, fileOf}
 use Rattle.boardfile.specs.Faults.{BadFrame, BadRecord}
-use Rattle.boardfile.specs.Parts.{GoodFrame, GoodRoles, GoodEdges, made}
-use Rattle.boardfile.specs.Answers.{IsFile, refusals, ReadAnswer}
+use Rattle.boardfile.specs.Parts.{GoodFrame, GoodRoles, GoodEdges, Tried}
+use Rattle.boardfile.specs.Answers.{IsFile, refusals, ReadAnswer, OpenAnswer}
 use Rattle.boardfile.proofs.Bytes.{whole}
 use Rattle.boardfile.proofs.Faultless.{Tidy, good-records}
 use Rattle.boardfile.proofs.OneFile.{at-place, one-board}
@@ -47,7 +49,7 @@ edge-junior t fi fa x y h = ⊎-elim
 -- ---- the parts together
 
 module _ {f : List ℕ} {n m live : ℕ} {i a : List ℕ} (frame : GoodFrame f n m) (roles : GoodRoles f n live) (edges : GoodEdges f n m live i a) where
-  pub is-file : IsFile f (made live i a)
+  pub is-file : IsFile f (boardOf live i a)
   unfolding fileOf bytesOf
   is-file = record { shaped = shaped; bytes = bytes }
     where
@@ -99,18 +101,19 @@ module _ {f : List ℕ} {n m live : ℕ} {i a : List ℕ} (frame : GoodFrame f n
 
 -- ---- the answers
 
-module _ {f : List ℕ} where
-  pub refused-frame : BadFrame f → ReadAnswer f 10 foundingBoard
+module _ {f : List ℕ} {live : ℕ} {i a down up : List ℕ} where
+  pub refused-frame : BadFrame f → Tried f 10 live i a down up
   unfolding First
-  refused-frame h = record { numbered = inl (h, refl); done = λ e. absurd (omega arith); refused = λ _. refl }
+  refused-frame h = record { numbered = inl (h, refl); done = λ e. absurd (omega (arith, e)) }
 
-  pub refused-record : (BadFrame f → ⊥) → BadRecord f → ReadAnswer f 11 foundingBoard
+  pub refused-record : (BadFrame f → ⊥) → BadRecord f → Tried f 11 live i a down up
   unfolding First
-  refused-record g h = record { numbered = inr (g, inl (h, refl)); done = λ e. absurd (omega arith); refused = λ _. refl }
+  refused-record g h = record { numbered = inr (g, inl (h, refl)); done = λ e. absurd (omega (arith, e)) }
 
 -- what a board's own trouble says of the file
-module _ {f : List ℕ} {b : Board} (number : ℕ) (frame : BadFrame f → ⊥) (record′ : BadRecord f → ⊥) (is : IsFile f b) (t : First (troubles b) number) where
-  pub numbered : First (refusals f) number
+module _ {f : List ℕ} {b : Board} (number : ℕ) (frame : BadFrame f → ⊥) (record′ : BadRecord f → ⊥) (is : IsFile f b)
+    (t : First ((7, Loops (tablesOf b)) ∷ (9, (Managed (tablesOf b) → ⊥)) ∷ []) number) where
+  numbered : First (refusals f) number
   unfolding First
   numbered = inr (
     frame,
@@ -132,18 +135,44 @@ module _ {f : List ℕ} {b : Board} (number : ℕ) (frame : BadFrame f → ⊥) 
       loopless : (Loops (tablesOf b) → ⊥) → ((b′ : Board) × IsFile f b′ × Loops (tablesOf b′)) → ⊥
       loopless n w = n (subst (λ (c : Board). Loops (tablesOf c)) (one-board (w .1) is) (w .2))
 
-  pub troubled : number ≢ 0 → ReadAnswer f number foundingBoard
-  troubled n = record { numbered = numbered; done = λ e. absurd (n e); refused = λ _. refl }
+-- where neither frame nor record has a fault, it is the board that may be in trouble
+pub tried : {f : List ℕ} {live n m : ℕ} {i a down up : List ℕ} (number : ℕ) → GoodFrame f n m → GoodRoles f n live → GoodEdges f n m live i a
+    → Weighed (tables live i a) number down up → Tried f number live i a down up
+tried {f} {live} {i = i} {a = a} number frame roles edges w = record {
+  numbered = numbered number (frame .faultless) (faultless frame roles edges) (is-file frame roles edges) t;
+  done = λ z. (is-file frame roles edges, sound z, w .seen);
+}
+  where
+    shaped : Shaped (tables live i a)
+    shaped = is-file frame roles edges .shaped
 
-  pub untroubled : number ≡ 0 → Joined (tablesOf b) → Live (tablesOf b) 0 → ReadAnswer f number b
-  untroubled e joined root = record { numbered = numbered; done = λ _. (is, sound); refused = λ n. absurd (n e) }
-    where
-      sound : Sound (tablesOf b)
-      sound =
-          let passed = first-done (troubles b) refl (subst (First (troubles b)) e t) in record {
-            shaped = is .shaped;
-            joined = joined;
-            loopless = passed .0;
-            root = root;
-            managed = stable (managed-dec (is .shaped)) (passed .1 .0);
-          }
+    t : First ((7, Loops (tables live i a)) ∷ (9, (Managed (tables live i a) → ⊥)) ∷ []) number
+    t = troubles-joined number shaped (joined frame roles edges) (w .numbered)
+
+    sound : number ≡ 0 → Sound (tables live i a)
+    sound z =
+        let passed = first-done _ refl (subst (First ((7, Loops (tables live i a)) ∷ (9, (Managed (tables live i a) → ⊥)) ∷ [])) z t) in record {
+          shaped = shaped;
+          joined = joined frame roles edges;
+          loopless = passed .0;
+          root = roles .root;
+          managed = stable (managed-dec shaped) (passed .1 .0);
+        }
+
+-- ---- a file opened
+
+module _ {f : List ℕ} {number live : ℕ} {i a down up : List ℕ} (t : Tried f number live i a down up) where
+  pub open-done : number ≡ 0 → OpenAnswer f number live i a down up
+  open-done z = let d = t .done z in record {
+    reading = record { numbered = t .numbered; done = λ _. (d .0, d .1); refused = λ n. absurd (n z) };
+    seen = d .2;
+  }
+
+  -- a refusal gives the founding board
+  pub open-refused : {i′ a′ down′ up′ : List ℕ} → number ≢ 0 → i′ ≡ replicate 64 0 → a′ ≡ replicate 64 0 → HasViews (tables 1 i′ a′) down′ up′
+      → OpenAnswer f number 1 i′ a′ down′ up′
+  unfolding foundingBoard
+  open-refused n ei ea seen = record {
+    reading = record { numbered = t .numbered; done = λ z. absurd (n z); refused = λ _. ap₂ (boardOf 1) ei ea };
+    seen = seen;
+  }

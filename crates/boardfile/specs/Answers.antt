@@ -4,10 +4,11 @@ use mathlib.Core.Logic.{_≢_}
 use mathlib.Core.List.{List, [], _∷_, _++_}
 use Prim.Native.Nat.{ℕ, _+_, _-_, _<_}
 use lib.ListN.{length, take, drop}
-use Rattle.hierarchy.specs.Tables.{Live, Shaped}
+use Rattle.hierarchy.specs.Tables.{tables, Live, Shaped}
 use Rattle.hierarchy.specs.Words.{Loops, Managed, Sound}
 use Rattle.hierarchy.specs.First.{First}
-use Rattle.board.specs.Boards.{tablesOf, foundingBoard}
+use Rattle.board.specs.Boards.{tablesOf, boardOf, foundingBoard}
+use Rattle.board.specs.Looks.{HasViews}
 use Rattle.board.specs.declared.Board.{Board}
 use Rattle.boardfile.specs.Files.{fileOf, stretchOf, startOf}
 use Rattle.boardfile.specs.Faults.{BadFrame, BadRecord}
@@ -32,6 +33,11 @@ pub record ReadAnswer (f : List ℕ) (number : ℕ) (board : Board) : Type 0 whe
   pub numbered : First (refusals f) number
   pub done : number ≡ 0 → IsFile f board × Sound (tablesOf board)
   pub refused : number ≢ 0 → board ≡ foundingBoard
+
+-- the same with the board in parts, and its views beside it
+pub record OpenAnswer (f : List ℕ) (number live : ℕ) (i a down up : List ℕ) : Type 0 where
+  pub reading : ReadAnswer f number (boardOf live i a)
+  pub seen : HasViews (tables live i a) down up
 
 -- ---- the edge records of one senior: the reader's refusals, then 2, then 3
 

@@ -6,15 +6,18 @@ use mathlib.Core.List.{List, [], _∷_, _++_}
 use Prim.Native.Nat.{ℕ, _+_, _-_, _*_, _/_, _%_, _^_, _≤_, _<_}
 use lib.ListN.{length, take, drop}
 use Rattle.sets.specs.Sets.{bit, _∈_}
-use Rattle.hierarchy.specs.Tables.{tables, row, kindOf}
+use Rattle.hierarchy.specs.Tables.{tables, IsTable, kindOf}
 use Rattle.hierarchy.specs.First.{First}
-use Rattle.board.specs.Boards.{tablesOf}
+use Rattle.hierarchy.specs.Words.{Sound}
+use Rattle.board.specs.Boards.{tablesOf, boardOf}
+use Rattle.board.specs.Looks.{HasViews}
 use Rattle.board.specs.declared.Board.{Board}
 use Rattle.boardfile.specs.declared.frame.Framed.{Framed}
 use Rattle.boardfile.specs.declared.frame.Framed.the-variants.{Good, Bad}
 use Rattle.boardfile.specs.declared.reader.Roles.{Roles}
 use Rattle.boardfile.specs.declared.reader.Roles.the-variants.{Live, Unlisted}
 use Rattle.boardfile.specs.Files.{from, edgeBytes, kindAt, trailer}
+use Rattle.boardfile.specs.Answers.{IsFile, refusals}
 use Rattle.boardfile.specs.Faults.{byte, roleCount, edgeCount, senior, BadFrame, BadRecord}
 
 -- ---- the frame
@@ -80,10 +83,6 @@ pub record Fine (lives : ℕ → Bool) (e : ℕ) : Type 0 where
   pub junior-lives : lives (e % 64) ≡ true
   pub apart : e / 64 ≢ e % 64
 
-pub record IsTable (t : List ℕ) : Type 0 where
-  pub rows : length t ≡ 64
-  pub fits : (x : ℕ) → row t x < 2 ^ 64
-
 pub record GoodEdges (f : List ℕ) (n m live : ℕ) (i a : List ℕ) : Type 0 where
   pub bytes : take (3 * m) (drop n f) ≡ edgeBytes (kindAt (tables live i a)) 4096 0
   pub fine : (e : ℕ) → kindAt (tables live i a) e ≢ 0 → Fine (bit live) e
@@ -94,15 +93,18 @@ abbrev pub Entering : List ℕ → ℕ → ℕ → ℕ → Bool → List ℕ →
 Entering f n m live true i a = GoodEdges f n m live i a
 Entering f n m live false i a = BadRecord f
 
+-- ---- the parts together
+
+-- a file tried: its refusal, or its board in parts, with the views
+pub record Tried (f : List ℕ) (number live : ℕ) (i a down up : List ℕ) : Type 0 where
+  pub numbered : First (refusals f) number
+  pub done : number ≡ 0 → IsFile f (boardOf live i a) × Sound (tables live i a) × HasViews (tables live i a) down up
+
 -- ---- what the parts of the writer do
 
 -- the kinds at the places of two tables: unfolded, those of every board that has the two, whoever lives
 abbrev pub kindsIn : List ℕ → List ℕ → ℕ → ℕ
 kindsIn i a = kindAt (tables 0 i a)
-
--- the board of these parts
-abbrev pub made : ℕ → List ℕ → List ℕ → Board
-made live i a = record { live = live; i = i; a = a }
 
 -- the bytes go to the front of what was there
 abbrev pub Put : List ℕ → List ℕ → List ℕ → Type 0

@@ -8,10 +8,9 @@ mod reader;
 mod writer;
 
 ghost use mathlib.Core.Path.{_≡_};
-ghost use Rattle.board.specs.Boards.{foundingBoard};
 ghost use Rattle.hierarchy.specs.First.{First};
-ghost use Rattle.boardfile.specs.Answers.{ReadAnswer, PutAnswer, WriteAnswer, stretchRefusals, BoundsAnswer, StretchAnswer};
-ghost use Rattle.boardfile.specs.Parts.{Asked};
+ghost use Rattle.boardfile.specs.Answers.{ReadAnswer, OpenAnswer, PutAnswer, WriteAnswer, stretchRefusals, BoundsAnswer, StretchAnswer};
+ghost use Rattle.boardfile.specs.Parts.{Asked, Tried};
 use board::Board;
 use board::checks::sound;
 use board::checks::trouble;
@@ -20,7 +19,6 @@ use frame::TRAILER;
 use frame::frame;
 use reader::Roles;
 use reader::below;
-use reader::blank;
 use reader::edges;
 use reader::listed;
 use sets::has;
@@ -34,39 +32,88 @@ pub struct Reading {
     pub board: Board,
 }
 
-// The answer to a file that is refused.
-fn refused(number: u8) -> Reading
-    ensures { λ r. ⌜ (r .number ≡ number) × (r .board ≡ foundingBoard) ⌝ }
-{
-    let board = Board::founding();
-    Reading { number, board }
+// The number, and the live roles of the board; its tables and views go to what is lent.
+pub struct Opened {
+    pub number: u8,
+    pub live: u64,
 }
 
-// The board of a file.
-pub fn read(file: &[u8]) -> Reading
-    ensures { λ r. ⌜ ReadAnswer (now (file .entry)) (r .number) (r .board) ⌝ }
+// Reads the parts one after the other. A refusal leaves anything in what is lent.
+fn tried(
+    file: &[u8],
+    i: &mut [u64; 64],
+    a: &mut [u64; 64],
+    down: &mut [u64; 64],
+    up: &mut [u64; 64],
+) -> Opened
+    ensures { λ r. ⌜ Tried (now (file .entry)) (r .number) (r .live) (now (i .exit)) (now (a .exit)) (now (down .exit)) (now (up .exit)) ⌝ }
 {
     let Framed::Good {
         roles,
         edges: records,
     } = frame(file)
     else {
-        return refused(10);
+        return Opened {
+            number: 10,
+            live: 0,
+        };
     };
     let Roles::Live(live) = listed(file, roles) else {
-        return refused(11);
+        return Opened {
+            number: 11,
+            live: 0,
+        };
     };
-    let mut i = blank();
-    let mut a = blank();
-    if !edges(file, roles, records, live, &mut i, &mut a) {
-        return refused(11);
+    *i = [0; 64];
+    *a = [0; 64];
+    if !edges(file, roles, records, live, i, a) {
+        return Opened {
+            number: 11,
+            live: 0,
+        };
     }
-    let board = Board { live, i, a };
-    let number = trouble(board);
-    if number != 0 {
-        return refused(number);
+    let number = trouble(live, i, a, down, up);
+    Opened { number, live }
+}
+
+// The board of a file in parts, with its views, for a caller that goes on with them. Whatever was in what is lent is lost; a refusal
+// leaves the founding board there.
+pub fn open(
+    file: &[u8],
+    i: &mut [u64; 64],
+    a: &mut [u64; 64],
+    down: &mut [u64; 64],
+    up: &mut [u64; 64],
+) -> Opened
+    ensures { λ r. ⌜ OpenAnswer (now (file .entry)) (r .number) (r .live) (now (i .exit)) (now (a .exit)) (now (down .exit)) (now (up .exit)) ⌝ }
+{
+    let o = tried(file, i, a, down, up);
+    if o.number == 0 {
+        return o;
     }
-    Reading { number, board }
+    *i = [0; 64];
+    *a = [0; 64];
+    trouble(1, i, a, down, up);
+    Opened {
+        number: o.number,
+        live: 1,
+    }
+}
+
+// The board of a file.
+pub fn read(file: &[u8]) -> Reading
+    ensures { λ r. ⌜ ReadAnswer (now (file .entry)) (r .number) (r .board) ⌝ }
+{
+    let mut i = [0u64; 64];
+    let mut a = [0u64; 64];
+    let mut down = [0u64; 64];
+    let mut up = [0u64; 64];
+    let o = open(file, &mut i, &mut a, &mut down, &mut up);
+    let board = Board { live: o.live, i, a };
+    Reading {
+        number: o.number,
+        board,
+    }
 }
 
 pub struct Written {

@@ -88,13 +88,6 @@ fn entered(row: u64, junior: usize, part: bool) -> u64
     row
 }
 
-// No row has a member.
-pub(crate) fn blank() -> [u64; 64]
-    ensures { λ r. ⌜ r ≡ replicate 64 0 ⌝ }
-{
-    [0; 64]
-}
-
 // The m edge records behind n role bytes, into two blank tables; false where a record is wrong.
 pub(crate) fn edges(
     file: &[u8],

@@ -4,9 +4,9 @@ ghost use Prim.Native.Nat.{_≤_, _<_};
 ghost use lib.ListN.{length};
 ghost use Rattle.sets.specs.Sets.{bit};
 ghost use Rattle.hierarchy.specs.Tables.{kindOf};
-ghost use Rattle.board.specs.Boards.{tablesOf};
+ghost use Rattle.board.specs.Boards.{tablesOf, boardOf};
 ghost use Rattle.boardfile.specs.Files.{from, edge?, edgeBytes, kindAt, trailer, fileOf};
-ghost use Rattle.boardfile.specs.Parts.{kindsIn, made, rowBytes, Put, Room};
+ghost use Rattle.boardfile.specs.Parts.{kindsIn, rowBytes, Put, Room};
 use crate::frame::MARK;
 use board::Board;
 use sets::Pick;
@@ -123,8 +123,8 @@ pub(crate) fn put_file<'t>(
     edges: usize,
     out: &mut [u8],
 )
-    requires { ⌜ Room (made live (now i) (now a)) roles edges (now out) ⌝ }
-    ensures { λ _. ⌜ Put (fileOf (made live (now (i .entry)) (now (a .entry)))) (now (out .entry)) (now (out .exit)) ⌝ }
+    requires { ⌜ Room (boardOf live (now i) (now a)) roles edges (now out) ⌝ }
+    ensures { λ _. ⌜ Put (fileOf (boardOf live (now (i .entry)) (now (a .entry)))) (now (out .entry)) (now (out .exit)) ⌝ }
 {
     let body = roles + edges;
     put_roles(live, &mut out[0..roles]);
