@@ -5,16 +5,24 @@ use mathlib.Core.List.{List}
 use Prim.Native.Nat.{ℕ}
 use Rattle.hierarchy.specs.Words.{Sound}
 use Rattle.hierarchy.specs.First.{First}
-use Rattle.board.specs.Boards.{tablesOf}
+use Rattle.board.specs.Boards.{tablesOf, boardOf}
+use Rattle.board.specs.Looks.{Viewed}
 use Rattle.board.specs.Commands.{Decided}
 use Rattle.board.specs.declared.Board.{Board}
 use Rattle.board.specs.declared.Command.{Command}
 use Rattle.board.proofs.Kept.{sound-after}
-use Rattle.boardfile.specs.Answers.{ReadAnswer, WriteAnswer, writeRefusals}
+use Rattle.boardfile.specs.Answers.{ReadAnswer, OpenAnswer, WriteAnswer, writeRefusals}
 
 module _ {n : ℕ} where
   pub read-done : {f : List ℕ} {b : Board} → ReadAnswer f n b → n ≡ 0 → ReadAnswer f 0 b
   read-done {f} {b} a e = subst (λ (k : ℕ). ReadAnswer f k b) e a
+
+  -- a file that was opened has its board viewed
+  pub open-read : {f : List ℕ} {live : ℕ} {i a down up : List ℕ} → OpenAnswer f n live i a down up → n ≡ 0 → ReadAnswer f 0 (boardOf live i a)
+  open-read o e = read-done (o .reading) e
+
+  pub open-viewed : {f : List ℕ} {live : ℕ} {i a down up : List ℕ} → OpenAnswer f n live i a down up → n ≡ 0 → Viewed (boardOf live i a) down up
+  open-viewed o e = record { sound = o .reading .done e .1; seen = o .seen }
 
   pub step-done : {b next : Board} {c : Command} → Decided b c n next → n ≡ 0 → Decided b c 0 next
   step-done {b} {next} {c} a e = subst (λ (k : ℕ). Decided b c k next) e a

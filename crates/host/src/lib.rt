@@ -1,7 +1,7 @@
 // The board for programs in C. `host/board.h` declares these functions and says how an answer is taken apart.
 //
-// Each function on a file reads it first: a file that is refused is the answer, with place 1. Nothing is asked of a caller but that
-// the pointers are good.
+// Each function on a file opens it first: a file that is refused is the answer, with place 1. Opening works out the views of its board,
+// and what follows goes on with these, so that a board is weighed once. Nothing is asked of a caller but that the pointers are good.
 mod answers;
 mod place;
 
@@ -18,14 +18,14 @@ use answers::packed;
 use answers::scope_value;
 use board::Board;
 use board::Command;
-use board::commands::step;
+use board::commands::decide;
 use board::lent::apply;
-use board::questions::derives;
-use board::questions::line_manager;
-use board::questions::scope;
-use board::questions::steps;
-use boardfile::read;
-use boardfile::write;
+use board::questions::derives_by;
+use board::questions::line_manager_by;
+use board::questions::scope_by;
+use board::questions::steps_by;
+use boardfile::open;
+use boardfile::put;
 use place::place;
 
 // One command on the caller's own board.
@@ -93,17 +93,21 @@ pub extern "C" fn board_command(
 fn commanded(file: &[u8], c: Command, out: &mut [u8]) -> u32
     ensures { λ r. ⌜ Commanded (now (file .entry)) c (now (out .entry)) (now (out .exit)) r ⌝ }
 {
-    let f = read(file);
+    let mut i = [0u64; 64];
+    let mut a = [0u64; 64];
+    let mut down = [0u64; 64];
+    let mut up = [0u64; 64];
+    let f = open(file, &mut i, &mut a, &mut down, &mut up);
     if f.number != 0 {
         return packed(f.number, FILE, 0);
     }
-    let b = f.board;
-    let o = step(b, c);
+    let b = Board { live: f.live, i, a };
+    let o = decide(b, c, &down, &up);
     if o.number != 0 {
         return packed(o.number, ASKED, 0);
     }
     let next = o.board;
-    let w = write(next, out, 0);
+    let w = put(next, out, 0);
     if w.number != 0 {
         return packed(w.number, WRITING, 0);
     }
@@ -115,7 +119,11 @@ fn commanded(file: &[u8], c: Command, out: &mut [u8]) -> u32
 pub extern "C" fn board_check(file: &[u8]) -> u32
     ensures { λ r. ⌜ Asked (now (file .entry)) Nothing 0 r ⌝ }
 {
-    let f = read(file);
+    let mut i = [0u64; 64];
+    let mut a = [0u64; 64];
+    let mut down = [0u64; 64];
+    let mut up = [0u64; 64];
+    let f = open(file, &mut i, &mut a, &mut down, &mut up);
     if f.number != 0 {
         return packed(f.number, FILE, 0);
     }
@@ -127,12 +135,15 @@ pub extern "C" fn board_check(file: &[u8]) -> u32
 pub extern "C" fn board_derives(file: &[u8], x: u8, y: u8) -> u32
     ensures { λ r. ⌜ Asked (now (file .entry)) (DerivesValue x y) 0 r ⌝ }
 {
-    let f = read(file);
+    let mut i = [0u64; 64];
+    let mut a = [0u64; 64];
+    let mut down = [0u64; 64];
+    let mut up = [0u64; 64];
+    let f = open(file, &mut i, &mut a, &mut down, &mut up);
     if f.number != 0 {
         return packed(f.number, FILE, 0);
     }
-    let b = f.board;
-    let q = derives(b, x, y);
+    let q = derives_by(f.live, &down, x, y);
     packed(q.number, ASKED, one_if(q.yes))
 }
 
@@ -141,12 +152,15 @@ pub extern "C" fn board_derives(file: &[u8], x: u8, y: u8) -> u32
 pub extern "C" fn board_scope(file: &[u8], a: u8, r: u8) -> u32
     ensures { λ n. ⌜ Asked (now (file .entry)) (ScopeValue a r) 0 n ⌝ }
 {
-    let f = read(file);
+    let mut by_i = [0u64; 64];
+    let mut by_a = [0u64; 64];
+    let mut down = [0u64; 64];
+    let mut up = [0u64; 64];
+    let f = open(file, &mut by_i, &mut by_a, &mut down, &mut up);
     if f.number != 0 {
         return packed(f.number, FILE, 0);
     }
-    let b = f.board;
-    let q = scope(b, a, r);
+    let q = scope_by(f.live, &down, &up, a, r);
     packed(q.number, ASKED, scope_value(q.yes, q.count))
 }
 
@@ -155,12 +169,15 @@ pub extern "C" fn board_scope(file: &[u8], a: u8, r: u8) -> u32
 pub extern "C" fn board_manager(file: &[u8], r: u8) -> u32
     ensures { λ n. ⌜ Asked (now (file .entry)) (ManagerValue r) 64 n ⌝ }
 {
-    let f = read(file);
+    let mut i = [0u64; 64];
+    let mut a = [0u64; 64];
+    let mut down = [0u64; 64];
+    let mut up = [0u64; 64];
+    let f = open(file, &mut i, &mut a, &mut down, &mut up);
     if f.number != 0 {
         return packed(f.number, FILE, NONE);
     }
-    let b = f.board;
-    let q = line_manager(b, r);
+    let q = line_manager_by(f.live, &down, &up, r);
     let m = q.manager;
     packed(q.number, ASKED, manager_value(m))
 }
@@ -170,12 +187,15 @@ pub extern "C" fn board_manager(file: &[u8], r: u8) -> u32
 pub extern "C" fn board_steps(file: &[u8], r: u8) -> u32
     ensures { λ n. ⌜ Asked (now (file .entry)) (StepsValue r) 0 n ⌝ }
 {
-    let f = read(file);
+    let mut i = [0u64; 64];
+    let mut a = [0u64; 64];
+    let mut down = [0u64; 64];
+    let mut up = [0u64; 64];
+    let f = open(file, &mut i, &mut a, &mut down, &mut up);
     if f.number != 0 {
         return packed(f.number, FILE, 0);
     }
-    let b = f.board;
-    let q = steps(b, r);
+    let q = steps_by(f.live, &down, &up, r);
     packed(q.number, ASKED, q.steps as u16)
 }
 
@@ -184,12 +204,15 @@ pub extern "C" fn board_steps(file: &[u8], r: u8) -> u32
 pub extern "C" fn board_stretch(file: &[u8], role: u8) -> u64
     ensures { λ n. ⌜ Asked (now (file .entry)) (PlaceValue role) 0 n ⌝ }
 {
-    let f = read(file);
+    let mut i = [0u64; 64];
+    let mut a = [0u64; 64];
+    let mut down = [0u64; 64];
+    let mut up = [0u64; 64];
+    let f = open(file, &mut i, &mut a, &mut down, &mut up);
     if f.number != 0 {
         return packed(f.number, FILE, 0) as u64;
     }
-    let b = f.board;
-    let q = place(b, role);
+    let q = place(f.live, &i, &a, role);
     let low = packed(q.number, ASKED, q.start as u16);
     low as u64 + 4294967296 * (q.len as u64)
 }

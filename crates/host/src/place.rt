@@ -1,9 +1,9 @@
 // Where the edge records of one senior stand in the file of a board: worked out from the board, so that the file is read once.
 ghost use mathlib.Core.Path.{_≡_};
 ghost use Prim.Native.Nat.{_≤_};
+ghost use Rattle.board.specs.Boards.{boardOf};
 ghost use Rattle.boardfile.specs.Files.{startOf};
 ghost use Rattle.host.specs.Answers.{PlaceAnswer};
-use board::Board;
 use sets::has;
 use sets::size;
 use sets::union;
@@ -15,24 +15,22 @@ pub(crate) struct Part {
 }
 
 // Where the records of this senior and of those above it begin: past the role bytes and the records of the seniors below.
-fn start_of(b: Board, senior: usize) -> usize
+fn start_of<'t>(live: u64, i: &'t [u64; 64], a: &'t [u64; 64], senior: usize) -> usize
     requires { ⌜ senior ≤ 64 ⌝ }
-    ensures { λ r. ⌜ r ≡ startOf b senior ⌝ }
+    ensures { λ r. ⌜ r ≡ startOf (boardOf live (now (i .entry)) (now (a .entry))) senior ⌝ }
 {
-    let i = b.i;
-    let a = b.a;
     let mut n: usize = 0;
     let mut x: usize = 0;
     while x < senior {
         n += size(union(i[x], a[x])) as usize;
         x += 1;
     }
-    size(b.live) as usize + 3 * n
+    size(live) as usize + 3 * n
 }
 
 // The place of the records of this senior.
-pub(crate) fn place(b: Board, role: u8) -> Part
-    ensures { λ r. ⌜ PlaceAnswer b role (r .number) (r .start) (r .len) ⌝ }
+pub(crate) fn place<'t>(live: u64, i: &'t [u64; 64], a: &'t [u64; 64], role: u8) -> Part
+    ensures { λ r. ⌜ PlaceAnswer (boardOf live (now (i .entry)) (now (a .entry))) role (r .number) (r .start) (r .len) ⌝ }
 {
     if 63 < role {
         return Part {
@@ -42,15 +40,15 @@ pub(crate) fn place(b: Board, role: u8) -> Part
         };
     }
     let senior = role as usize;
-    if !has(b.live, senior) {
+    if !has(live, senior) {
         return Part {
             number: 3,
             start: 0,
             len: 0,
         };
     }
-    let start = start_of(b, senior);
-    let len = start_of(b, senior + 1) - start;
+    let start = start_of(live, i, a, senior);
+    let len = start_of(live, i, a, senior + 1) - start;
     if len == 0 {
         return Part {
             number: 0,

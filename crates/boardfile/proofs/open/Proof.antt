@@ -3,24 +3,16 @@ use Rattle.boardfile.proofs.Readings.{open-done, open-refused}
 use borrow.Author.Needs.{needs}
 use Rattle.boardfile.proofs.open.Statement.{statement}
 use Rattle.boardfile.proofs.open.Tie as tie
-use Rattle.boardfile.proofs.open.Reads as reads
-use Rattle.boardfile.proofs.open.Lts as lts
-use Rattle.board.proofs.checks.trouble.Reads as trouble-reads
-use Rattle.boardfile.proofs.tried.Reads as tried-reads
 
--- src/lib.rt:90:9
 tried-requires : tie.Need-tried-requires
 tried-requires c κs = search needs
 
--- src/lib.rt:92:9
 returns : tie.Need-returns
 returns c = open-done (c .before .before .tried .ensures) (c .if1 .taken)
 
--- src/lib.rt:96:5
 trouble-requires : tie.Need-trouble-requires
 trouble-requires c κs = search needs
 
--- src/lib.rt:81:1
 returns-2 : tie.Need-returns-2
 returns-2 c = open-refused (c .before .before .before .before .before .before .before .before .before .tried .ensures) (c .before .before .before .before .before .before .before .if1 .left) refl refl (c .trouble .ensures .seen)
 

@@ -7,26 +7,16 @@ use Rattle.boardfile.proofs.Readings.{refused-frame, refused-record, tr
 use borrow.Author.Needs.{needs}
 use Rattle.boardfile.proofs.tried.Statement.{statement}
 use Rattle.boardfile.proofs.tried.Tie as tie
-use Rattle.boardfile.proofs.tried.Reads as reads
-use Rattle.boardfile.proofs.tried.Lts as lts
-use Rattle.board.proofs.checks.trouble.Reads as trouble-reads
-use Rattle.boardfile.proofs.frame.frame.Reads as frame-reads
-use Rattle.boardfile.proofs.reader.edges.Reads as edges-reads
-use Rattle.boardfile.proofs.reader.listed.Reads as listed-reads
 
--- src/lib.rt:54:9
 frame-requires : tie.Need-frame-requires
 frame-requires c κs = search needs
 
--- src/lib.rt:52:9
 enum-known-roles : tie.Need-enum-known-roles
 enum-known-roles c = search needs
 
--- src/lib.rt:56:9
 enum-told : tie.Need-enum-told
 enum-told c = search needs
 
--- src/lib.rt:56:9
 -- the parts, past the tests
 good-frame : (c : tie.After-known-told) → GoodFrame (c .before .before .before .before .before .args .file .now) (c .before .roles .given .0 .0) (c .before .roles .given .0 .1 .0)
 good-frame c = subst (Framing (c .before .before .before .before .before .args .file .now)) (c .before .roles .given .1) (c .before .before .before .frame .ensures)
@@ -44,35 +34,27 @@ good-edges c = subst (Told (c .before)) (not-false (c .before .edges .result) (c
 returns : tie.Need-returns
 returns c = refused-frame (subst (Framing _) (c .enum-told .given .1) (c .before .before .frame .ensures))
 
--- src/lib.rt:61:29
 listed-requires : tie.Need-listed-requires
 listed-requires c κs = let g = good-frame c in (g .roles, g .some, omega arith)
 
--- src/lib.rt:61:21
 enum-known-live : tie.Need-enum-known-live
 enum-known-live c = search needs
 
--- src/lib.rt:62:9
 enum-told-2 : tie.Need-enum-told-2
 enum-told-2 c = search needs
 
--- src/lib.rt:62:9
 returns-2 : tie.Need-returns-2
 returns-2 c = refused-record (good-frame (c .before .before .before) .faultless) (subst (Listing (c .before .before .before .before .before .before .before .before .args .file .now) (c .before .before .before .before .roles .given .0 .0)) (c .enum-told2 .given .1) (c .before .before .listed .ensures))
 
--- src/lib.rt:69:9
 edges-requires : tie.Need-edges-requires
 edges-requires c κs = (good-frame (c .before .before .before .before .before .before .before .before), good-roles (c .before .before .before .before), refl, refl)
 
--- src/lib.rt:70:9
 returns-3 : tie.Need-returns-3
 returns-3 c = refused-record (good-frame (c .before .before .before .before .before .before .before .before .before .before) .faultless) (subst (Told (c .before)) (not-true (c .before .edges .result) (c .if1 .taken)) (c .before .edges .ensures))
 
--- src/lib.rt:75:9
 trouble-requires : tie.Need-trouble-requires
 trouble-requires c κs = search needs
 
--- src/lib.rt:42:1
 returns-4 : tie.Need-returns-4
 returns-4 c = tried (c .trouble .result) (good-frame (c .before .before .before .before .before .before .before .before .before .before .before .before .before .before .before)) (good-roles (c .before .before .before .before .before .before .before .before .before .before .before)) (good-edges (c .before .before .before .before .before)) (c .trouble .ensures)
 

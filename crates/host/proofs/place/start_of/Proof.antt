@@ -1,18 +1,19 @@
-use mathlib.Core.Path.{sym, _∙_}
-use Prim.Native.Nat.{_≤_, _<_, _-_, _^_}
-use native.Mathlib.Omega.{arith}
 use borrow.Author.Needs.{needs}
-use Rattle.board.specs.Boards.{tablesOf}
+use mathlib.Core.Path.{sym, _∙_}
+use Prim.Native.Nat.{_≤_, _-_}
+use native.Mathlib.Omega.{arith}
+use Rattle.board.specs.Boards.{boardOf}
+use Rattle.hierarchy.specs.Tables.{tables}
 use Rattle.boardfile.proofs.Counts.{Counted, count-start, count-few, count-turn, row-count}
 use Rattle.host.proofs.Places.{count-at}
 use Rattle.host.proofs.place.start_of.Statement.{statement}
 use Rattle.host.proofs.place.start_of.Tie as tie
 
 abbrev Inv-loop : tie.InvT-loop
-Inv-loop b senior i a n₀ x₀ n x = (x ≤ senior) × Counted (tablesOf b) n x
+Inv-loop live i a senior n₀ x₀ n x = (x ≤ senior) × Counted (tables live i a) n x
 
 abbrev μ-loop : tie.MeasureT-loop
-μ-loop b senior i a n₀ x₀ n x = senior - x
+μ-loop live i a senior n₀ x₀ n x = senior - x
 
 loop-holds : tie.Need-loop-holds Inv-loop μ-loop
 loop-holds c = (omega arith, count-start _)
@@ -20,20 +21,26 @@ loop-holds c = (omega arith, count-start _)
 mul-union : tie.Need-mul-union Inv-loop μ-loop
 mul-union c = omega arith
 
-array-read-union : tie.Need-array-read-union Inv-loop μ-loop
-array-read-union c = omega arith
+element-copy-out-union : tie.Need-element-copy-out-union Inv-loop μ-loop
+element-copy-out-union c = omega arith
 
 mul-union-2 : tie.Need-mul-union-2 Inv-loop μ-loop
 mul-union-2 c = omega arith
 
-array-read-union-2 : tie.Need-array-read-union-2 Inv-loop μ-loop
-array-read-union-2 c = omega arith
+element-copy-out-union-2 : tie.Need-element-copy-out-union-2 Inv-loop μ-loop
+element-copy-out-union-2 c = omega arith
+
+union-requires : tie.Need-union-requires Inv-loop μ-loop
+union-requires c κs = search needs
+
+size-requires : tie.Need-size-requires Inv-loop μ-loop
+size-requires c κs = search needs
 
 cast-n : tie.Need-cast-n Inv-loop μ-loop
 cast-n c = omega (arith, c .size .ok)
 
 add-n : tie.Need-add-n Inv-loop μ-loop
-add-n c = let h = count-few (c .before .before .before .loop .inv .1) in omega (arith, c .size .ok)
+add-n c = let h = count-few (c .before .before .before .before .before .loop .inv .1) in omega (arith, c .size .ok)
 
 add-x : tie.Need-add-x Inv-loop μ-loop
 add-x c = omega arith
@@ -42,13 +49,14 @@ loop-less : tie.Need-loop-less Inv-loop μ-loop
 loop-less c = omega arith
 
 loop-again : tie.Need-loop-again Inv-loop μ-loop
-loop-again c =
-    let l = c .before .before .before in
-    let u = c .before .union in (
-      omega arith,
-      count-turn (l .loop .inv .1) (omega arith) (c .size .result)
-          (row-count _ _ (u .result) (omega (arith, u .ok)) (u .ensures) ∙ sym (c .size .ensures)),
-    )
+loop-again c = (
+  omega arith,
+  count-turn (c .before .before .before .before .before .loop .inv .1) (omega arith) (c .size .result)
+      (row-count _ _ (c .before .union .result) (omega (arith, c .before .union .ok)) (c .before .union .ensures) ∙ sym (c .size .ensures)),
+)
+
+size-requires-2 : tie.Need-size-requires-2 Inv-loop μ-loop
+size-requires-2 c κs = search needs
 
 cast-result : tie.Need-cast-result Inv-loop μ-loop
 cast-result c = omega (arith, c .size2 .ok)
@@ -59,17 +67,29 @@ mul-result c = let h = count-few (c .before .before .loop .inv .1) in omega arit
 add-result : tie.Need-add-result Inv-loop μ-loop
 add-result c = let h = count-few (c .before .before .loop .inv .1) in omega (arith, c .size2 .ok)
 
-fit : (s : tie.Start Inv-loop μ-loop) → s .args .b .live < 2 ^ 64
-fit s = search needs
-
 returns : tie.Need-returns Inv-loop μ-loop
-returns c =
-    let l = c .before .before in
-    let s = l .before .before .before in
-    count-at (s .args .b) (l .loop .n) (l .loop .x) (s .args .senior) (c .size2 .result) (l .loop .inv .1) (omega arith) (fit s) (c .size2 .ensures)
+returns c = count-at (boardOf (c .before .before .before .args .live) (c .before .before .before .args .i .now) (c .before .before .before .args .a .now)) (c .before .before .loop .n) (c .before .before .loop .x) (c .before .before .before .args .senior) (c .size2 .result) (c .before .before .loop .inv .1) (omega arith) (c .before .before .before .fits .live .fits) (c .size2 .ensures)
 
 pub start-of-spec : {M : Type 1} → statement M
 start-of-spec =
     tie.close
-    (tie.spec Inv-loop μ-loop loop-holds mul-union array-read-union mul-union-2 array-read-union-2 (λ c κs. tt) (λ c κs. tt) cast-n add-n add-x loop-less loop-again
-    (λ c κs. tt) cast-result mul-result add-result returns)
+    (tie.spec
+    Inv-loop
+    μ-loop
+    loop-holds
+    mul-union
+    element-copy-out-union
+    mul-union-2
+    element-copy-out-union-2
+    union-requires
+    size-requires
+    cast-n
+    add-n
+    add-x
+    loop-less
+    loop-again
+    size-requires-2
+    cast-result
+    mul-result
+    add-result
+    returns)
