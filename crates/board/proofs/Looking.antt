@@ -4,12 +4,13 @@ use mathlib.Core.Bool.{Bool, true, false, false≢true}
 use mathlib.Core.Logic.{inl, inr, _↔_}
 use mathlib.Core.List.{List, [], _∷_}
 use Prim.Native.Nat.{ℕ}
+use native.Mathlib.Omega.{arith}
 use lib.Dec.{eqb}
 use borrow.Author.Tests.{eqb-true, eq-eqb}
 use Rattle.hierarchy.specs.First.{First}
 use Rattle.hierarchy.specs.Tables.{Tables, Live, Shaped}
 use Rattle.hierarchy.specs.Words.{Joined, Loops, Managed, Sound}
-use Rattle.hierarchy.specs.Views.{AreViews, InOrder, WorkedOut, ManagedBy}
+use Rattle.hierarchy.specs.Views.{AreViews, InOrder, InOrderViews, ManagedBy}
 use Rattle.hierarchy.proofs.Decide.{loops-dec, managed-dec}
 use Rattle.hierarchy.proofs.FirstLaws.{first-unique, hit, pass, none}
 use Rattle.hierarchy.proofs.Order.{order-loopless}
@@ -49,31 +50,48 @@ unfolding First
 troubles-joined n shaped joined (inl p) = inl (looped shaped joined (p .0), p .1)
 troubles-joined n shaped joined (inr p) = inr (λ l. p .0 (λ o. order-loopless joined .0 o l), p .1)
 
-module _ {t : Tables} {down up : List ℕ} {order : Bool} (w : WorkedOut t down up order) where
-  pub has-views : HasViews t down up
-  has-views = record { views = w .views; down-rows = w .down-rows; up-rows = w .up-rows }
+seven : (n : ℕ) → n ≡ 0 → n ≡ 7 → ⊥
+seven n e q = omega (arith, e, q)
 
+module _ {t : Tables} {down up : List ℕ} {order : Bool} (w : InOrderViews t down up order) where
   pub weighed-7 : order ≡ false → Weighed t 7 down up
-  weighed-7 e = record { numbered = hit _ _ _ (fails (w .in-order) e); seen = has-views }
+  weighed-7 e = record { numbered = hit _ _ _ (fails (w .in-order) e); seen = λ n. absurd (n refl); blank = λ _. w .blank e }
 
-  module _ (e : order ≡ true) {m : Bool} (managed : (m ≡ true) ↔ ManagedBy (t .live) down up) where
-    pub weighed-0 : m ≡ true → Weighed t 0 down up
-    weighed-0 h = record { numbered = pass _ _ _ _ (λ n. n (holds (w .in-order) e)) (pass _ _ _ _ (λ n. n (managed-by (w .views) .0 (holds managed h))) none); seen = has-views }
+  module _ (e : order ≡ true) where
+    pub has-views : HasViews t down up
+    has-views = record { views = w .views e; down-rows = w .down-rows; up-rows = w .up-rows }
 
-    pub weighed-9 : m ≡ false → Weighed t 9 down up
-    weighed-9 h = record { numbered = pass _ _ _ _ (λ n. n (holds (w .in-order) e)) (hit _ _ _ (λ k. fails managed h (managed-by (w .views) .1 k))); seen = has-views }
+    module _ {m : Bool} (managed : (m ≡ true) ↔ ManagedBy (t .live) down up) where
+      pub weighed-0 : m ≡ true → Weighed t 0 down up
+      weighed-0 h = record {
+        numbered = pass _ _ _ _ (λ n. n (holds (w .in-order) e)) (pass _ _ _ _ (λ n. n (managed-by (w .views e) .0 (holds managed h))) none);
+        seen = λ _. has-views;
+        blank = λ q. absurd (omega (arith, q));
+      }
+
+      pub weighed-9 : m ≡ false → Weighed t 9 down up
+      weighed-9 h = record {
+        numbered = pass _ _ _ _ (λ n. n (holds (w .in-order) e)) (hit _ _ _ (λ k. fails managed h (managed-by (w .views e) .1 k)));
+        seen = λ _. has-views;
+        blank = λ q. absurd (omega (arith, q));
+      }
 
 -- where all else is well, trouble decides
-pub look-is : {t : Tables} {n : ℕ} {down up : List ℕ} → Shaped t → Live t 0 → Joined t → Weighed t n down up → Seen t (eqb n 0) down up
-look-is {t} {n} shaped root joined w = record { sound-is = (λ e. sound (eqb-true n 0 e), λ s. eq-eqb n 0 (first-unique (troubles t) n 0 (w .numbered) (fine s))); seen = λ _. w .seen }
-  where
-    sound : n ≡ 0 → Sound t
-    sound z =
-        let p = first-done _ refl (troubles-joined 0 shaped joined (subst (First (troubles t)) z (w .numbered))) in
-        record { shaped = shaped; joined = joined; loopless = p .0; root = root; managed = stable (managed-dec shaped) (p .1 .0) }
+module _ {t : Tables} {down up : List ℕ} (n : ℕ) (w : Weighed t n down up) where
+  -- nothing is wrong with sound tables
+  weighed-fine : Sound t → n ≡ 0
+  weighed-fine s = first-unique (troubles t) n 0 (w .numbered) (pass _ _ _ _ (λ k. k (order-loopless (s .joined) .1 (s .loopless))) (pass _ _ _ _ (λ k. k (s .managed)) none))
 
-    fine : Sound t → First (troubles t) 0
-    fine s = pass _ _ _ _ (λ k. k (order-loopless joined .1 (s .loopless))) (pass _ _ _ _ (λ k. k (s .managed)) none)
+  pub weighed-sound : Sound t → HasViews t down up
+  weighed-sound s = w .seen (seven n (weighed-fine s))
+
+  pub look-is : Shaped t → Live t 0 → Joined t → Seen t (eqb n 0) down up
+  look-is shaped root joined = record { sound-is = (λ e. sound (eqb-true n 0 e), λ s. eq-eqb n 0 (weighed-fine s)); seen = λ e. w .seen (seven n (eqb-true n 0 e)) }
+    where
+      sound : n ≡ 0 → Sound t
+      sound z =
+          let p = first-done _ refl (troubles-joined 0 shaped joined (subst (First (troubles t)) z (w .numbered))) in
+          record { shaped = shaped; joined = joined; loopless = p .0; root = root; managed = stable (managed-dec shaped) (p .1 .0) }
 
 -- a look that finds nothing sound
 pub unseen : {t : Tables} {down up : List ℕ} → (Sound t → ⊥) → Seen t false down up

@@ -4,7 +4,7 @@ use mathlib.Core.Bool.{Bool, true}
 use mathlib.Core.Logic.{_≢_, _↔_}
 use mathlib.Core.List.{List}
 use Prim.Native.Nat.{ℕ}
-use lib.ListN.{length}
+use lib.ListN.{length, replicate}
 use Rattle.sets.specs.Sets.{_∈_}
 use Rattle.hierarchy.specs.First.{First}
 use Rattle.hierarchy.specs.Tables.{Tables}
@@ -21,10 +21,11 @@ pub record HasViews (t : Tables) (down up : List ℕ) : Type 0 where
   pub down-rows : length down ≡ 64
   pub up-rows : length up ≡ 64
 
--- tables weighed: their trouble, and their views
+-- Tables weighed: their trouble, and their views. Where the live roles are not in order there are none, and both are blank.
 pub record Weighed (t : Tables) (number : ℕ) (down up : List ℕ) : Type 0 where
   pub numbered : First (troubles t) number
-  pub seen : HasViews t down up
+  pub seen : number ≢ 7 → HasViews t down up
+  pub blank : number ≡ 7 → (down ≡ replicate 64 0) × (up ≡ replicate 64 0)
 
 -- a look at tables: whether they are sound, and where they are, their views
 pub record Seen (t : Tables) (sound : Bool) (down up : List ℕ) : Type 0 where

@@ -9,7 +9,7 @@ ghost use Rattle.board.specs.Looks.{Weighed};
 use crate::Board;
 use crate::looks::look;
 use hierarchy::scopes::managed;
-use hierarchy::views::work_out;
+use hierarchy::views::views_in_order;
 
 // Whether the board is sound.
 pub fn sound(b: Board) -> bool
@@ -20,8 +20,8 @@ pub fn sound(b: Board) -> bool
     look(b.live, &b.i, &b.a, &mut down, &mut up)
 }
 
-// What is wrong with tables whose entries join live roles: 7 where some role reaches itself, 9 where one has no administrator. Their
-// views are left in `down` and `up`, whatever was there.
+// What is wrong with tables whose entries join live roles: 7 where some role reaches itself, 9 where one has no administrator. With 9,
+// and where nothing is wrong, their views are left in `down` and `up`, whatever was there; with 7 both are blank.
 pub fn trouble<'t>(
     live: u64,
     i: &'t [u64; 64],
@@ -31,7 +31,7 @@ pub fn trouble<'t>(
 ) -> u8
     ensures { λ r. ⌜ Weighed (tables live (now (i .entry)) (now (a .entry))) r (now (down .exit)) (now (up .exit)) ⌝ }
 {
-    if !work_out(live, i, a, down, up) {
+    if !views_in_order(live, i, a, down, up) {
         return 7;
     }
     if managed(live, down, up) {

@@ -21,7 +21,7 @@ use crate::looks::look;
 use hierarchy::scopes::administrators;
 use hierarchy::scopes::managed;
 use hierarchy::scopes::scope;
-use hierarchy::views::work_out;
+use hierarchy::views::views_in_order;
 use sets::has;
 use sets::minus;
 use sets::single;
@@ -195,7 +195,7 @@ fn refused_after<'t>(live: u64, i: &'t [u64; 64], a: &'t [u64; 64], c: Command) 
 {
     let mut down = [0u64; 64];
     let mut up = [0u64; 64];
-    if !work_out(live, i, a, &mut down, &mut up) {
+    if !views_in_order(live, i, a, &mut down, &mut up) {
         return 7;
     }
     if outside(&down, &up, c) {

@@ -7,6 +7,7 @@ ghost use Rattle.sets.specs.Sets.{bit, same?};
 ghost use Rattle.hierarchy.specs.Tables.{row, IsTable};
 ghost use Rattle.board.specs.Rows.{RowSet, Entered, Left};
 use sets::Pick;
+use sets::but_lowest;
 use sets::lowest;
 use sets::with;
 use sets::without;
@@ -53,7 +54,7 @@ pub(crate) fn enter(t: &mut [u64; 64], seniors: u64, junior: usize, part: bool)
             return;
         };
         t[x] = put(t[x], junior, part);
-        rest = without(rest, x);
+        rest = but_lowest(rest);
     }
 }
 

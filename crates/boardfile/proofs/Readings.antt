@@ -15,10 +15,11 @@ use Rattle.hierarchy.specs.Words.{Joined, Loops, Managed, Sound}
 use Rattle.hierarchy.specs.First.{First}
 use Rattle.hierarchy.proofs.Decide.{managed-dec}
 use Rattle.board.specs.Boards.{tablesOf, boardOf, foundingBoard}
-use Rattle.board.specs.Looks.{HasViews, Weighed}
+use Rattle.board.specs.Looks.{Weighed}
 use Rattle.board.specs.declared.Board.{Board}
 use Rattle.board.proofs.Rules.{stable, first-done}
-use Rattle.board.proofs.Looking.{troubles-joined}
+use Rattle.board.proofs.Looking.{troubles-joined, weighed-sound}
+use Rattle.board.proofs.Founding.{founding-sound}
 use Rattle.boardfile.specs.Files.{from, edgeBytes, kindAt, trailer, bytesOf, fileOf}
 use Rattle.boardfile.specs.Faults.{BadFrame, BadRecord}
 use Rattle.boardfile.specs.Parts.{GoodFrame, GoodRoles, GoodEdges, Tried}
@@ -140,7 +141,7 @@ pub tried : {f : List ℕ} {live n m : ℕ} {i a down up : List ℕ} (number : �
     → Weighed (tables live i a) number down up → Tried f number live i a down up
 tried {f} {live} {i = i} {a = a} number frame roles edges w = record {
   numbered = numbered number (frame .faultless) (faultless frame roles edges) (is-file frame roles edges) t;
-  done = λ z. (is-file frame roles edges, sound z, w .seen);
+  done = λ z. (is-file frame roles edges, sound z, weighed-sound number w (sound z));
 }
   where
     shaped : Shaped (tables live i a)
@@ -169,10 +170,13 @@ module _ {f : List ℕ} {number live : ℕ} {i a down up : List ℕ} (t : Tried 
   }
 
   -- a refusal gives the founding board
-  pub open-refused : {i′ a′ down′ up′ : List ℕ} → number ≢ 0 → i′ ≡ replicate 64 0 → a′ ≡ replicate 64 0 → HasViews (tables 1 i′ a′) down′ up′
+  pub open-refused : {i′ a′ down′ up′ : List ℕ} {n : ℕ} → number ≢ 0 → i′ ≡ replicate 64 0 → a′ ≡ replicate 64 0 → Weighed (tables 1 i′ a′) n down′ up′
       → OpenAnswer f number 1 i′ a′ down′ up′
   unfolding foundingBoard
-  open-refused n ei ea seen = record {
-    reading = record { numbered = t .numbered; done = λ z. absurd (n z); refused = λ _. ap₂ (boardOf 1) ei ea };
-    seen = seen;
+  open-refused {i′} {a′} {n = n} z ei ea w = record {
+    reading = record { numbered = t .numbered; done = λ e. absurd (z e); refused = λ _. founded };
+    seen = weighed-sound n w (subst (λ (b : Board). Sound (tablesOf b)) (sym founded) founding-sound);
   }
+    where
+      founded : boardOf 1 i′ a′ ≡ foundingBoard
+      founded = ap₂ (boardOf 1) ei ea

@@ -10,11 +10,11 @@ ghost use Rattle.boardfile.specs.Parts.{kindsIn, rowBytes, Put, Room};
 use crate::frame::MARK;
 use board::Board;
 use sets::Pick;
+use sets::but_lowest;
 use sets::has;
 use sets::lowest;
 use sets::size;
 use sets::union;
-use sets::without;
 
 // How many edges the two tables have.
 pub(crate) fn count_edges<'t>(i: &'t [u64; 64], a: &'t [u64; 64]) -> usize
@@ -48,7 +48,7 @@ pub(crate) fn put_roles(live: u64, out: &mut [u8])
             return;
         };
         out[k] = role as u8;
-        rest = without(rest, role);
+        rest = but_lowest(rest);
         k += 1;
     }
 }
@@ -83,7 +83,7 @@ fn put_row(senior: usize, i: u64, a: u64, out: &mut [u8]) -> usize
         out[at] = senior as u8;
         out[at + 1] = junior as u8;
         out[at + 2] = kind(has(i, junior), has(a, junior));
-        rest = without(rest, junior);
+        rest = but_lowest(rest);
         at += 3;
     }
 }

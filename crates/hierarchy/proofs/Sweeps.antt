@@ -6,21 +6,20 @@ use mathlib.Core.List.{List}
 use Prim.Native.Nat.{ℕ, _^_, _<_}
 use native.Mathlib.Decide.{ℕ-discrete}
 use lib.Count.{ones}
-use lib.Dec.{eqb}
 use lib.ListN.{length, set, length-set, replicate}
-use borrow.Author.Tests.{eqb-true, eq-eqb}
+use borrow.Author.Tests.{eq-eqb}
 use Rattle.sets.specs.Sets.{bit, _∈_, _⊆_, same?, setOf, NoRole}
-use Rattle.sets.proofs.Bools.{true-or-false, or-cases, or-left, or-right, and-left, and-right, and-both, false-no, not-so, lt-or-ge}
+use Rattle.sets.proofs.Bools.{true-or-false, or-cases, or-left, or-right, and-left, and-right, and-both, false-no, not-so, iff-same, lt-or-ge}
 use Rattle.sets.proofs.Digits.{bit-zero}
-use Rattle.sets.proofs.Laws.{bit-lt, same-eq, same-self, part-whole, minus-part, setOf-fits, in-setOf}
+use Rattle.sets.proofs.Laws.{ext, bit-lt, same-eq, same-self, part-whole, minus-part, setOf-fits, in-setOf}
 use Rattle.sets.proofs.Members.{Drawn, drawn-kept, Taken, taken-part, taken-kept}
 use Rattle.hierarchy.specs.Tables.{Tables, tables, row, kind}
 use Rattle.hierarchy.specs.Words.{Derives, Way, Way.edge, Way.then, Reaches, Chain, Chain.stop, Chain.step}
-use Rattle.hierarchy.specs.Views.{Led, InOrder}
-use Rattle.hierarchy.specs.Engine.{Entry, InRows, Spread, ByI, Settled, RightRows, Right, Waits, Swept, Ordered, Finishing, IsDown}
+use Rattle.hierarchy.specs.Views.{Led, InOrder, InOrderViews}
+use Rattle.hierarchy.specs.Engine.{Entry, InRows, Spread, ByI, Settled, RightRows, Right, Waits, Swept, Ordered, IsDown, IsUp}
 use Rattle.hierarchy.proofs.Derive.{edge-entry, derives↔descends}
-use Rattle.hierarchy.proofs.Rows.{row-set, blank-row, Filled}
-use Rattle.hierarchy.proofs.Managing.{a-member}
+use Rattle.hierarchy.proofs.Rows.{row-set, blank-row, Filled, filled-start, views-are}
+use Rattle.hierarchy.proofs.Managing.{a-member, no-iff}
 use Rattle.hierarchy.proofs.Rounds.{stuck}
 
 -- ---- the rows of a set's members
@@ -51,17 +50,19 @@ gather-end sum empty inv z = (inv .only z, λ r. ⊎-elim (λ q. absurd (false-n
 abbrev less : ℕ → ℕ → ℕ
 less s t = setOf (λ x. bit s x && not (bit t x))
 
+less-is : (s t : ℕ) → s < 2 ^ 64 → (x : ℕ) → bit (less s t) x ≡ (bit s x && not (bit t x))
+less-is s t f x = in-setOf (λ x. bit s x && not (bit t x)) x (λ e. bit-lt 64 f (and-left (bit s x) (not (bit t x)) e))
+
+in-less : (s t : ℕ) → s < 2 ^ 64 → (x : ℕ) → x ∈ less s t → (x ∈ s) × (bit t x ≡ false)
+in-less s t f x m =
+    let e : (bit s x && not (bit t x)) ≡ true = sym (less-is s t f x) ∙ m in
+    (and-left (bit s x) (not (bit t x)) e, not-so (bit t x) (λ d. false-no (ap not d) (and-right (bit s x) (not (bit t x)) e)))
+
 outside : (s t : ℕ) → s < 2 ^ 64 → (s ⊆ t → ⊥) → (y : ℕ) × (y ∈ s) × (bit t y ≡ false)
-outside s t f n = (m .0, and-left (bit s (m .0)) (not (bit t (m .0))) e, not-so (bit t (m .0)) (λ d. false-no (ap not d) (and-right (bit s (m .0)) (not (bit t (m .0))) e)))
-  where
-    is : (x : ℕ) → bit (less s t) x ≡ (bit s x && not (bit t x))
-    is x = in-setOf (λ x. bit s x && not (bit t x)) x (λ e. bit-lt 64 f (and-left (bit s x) (not (bit t x)) e))
-
-    m : (y : ℕ) × (y ∈ less s t)
-    m = a-member (less s t) (setOf-fits _) (λ z. n (minus-part s t (less s t) (setOf-fits _) is .0 (eq-eqb (less s t) 0 z)))
-
-    e : (bit s (m .0) && not (bit t (m .0))) ≡ true
-    e = sym (is (m .0)) ∙ m .1
+outside s t f n =
+    let m = a-member (less s t) (setOf-fits _) (λ z. n (minus-part s t (less s t) (setOf-fits _) (less-is s t f) .0 (eq-eqb (less s t) 0 z))) in
+    let l = in-less s t f (m .0) (m .1) in
+    (m .0, l .0, l .1)
 
 -- ---- one role is settled in one table
 
@@ -249,49 +250,92 @@ module _ {live done left : ℕ} {i a by-i down by-i′ down′ : List ℕ} (more
       still y n = not-so (bit more y) (λ m. ⊎-elim (false-no n)
           (λ l. false-no (rest-is y ∙ ap (λ (p : Bool). bit left y && not p) m ∙ and-false (bit left y)) (ap (λ (s : ℕ). bit s y) same ∙ l)) (sweep .part y m))
 
--- ---- what each role derives
+-- ---- all live roles are done: order
 
-module _ {live : ℕ} {i a by-i down : List ℕ} {done : ℕ} (left : ℕ) (ord : Ordered live i a by-i down done)
-    (left-is : (x : ℕ) → bit left x ≡ (bit live x && not (bit done x))) where
+module _ {live : ℕ} {i a by-i down : List ℕ} (done : ℕ) (ord : Ordered live i a by-i down done) where
   abbrev t : Tables
   t = tables live i a
 
-  by-done : (x : ℕ) → x ∈ done → (z : ℕ) → (z ∈ row down x) ↔ Derives t x z
-  by-done x m z = (
-    λ e.
-        let s = ord .right .a-rows .right x m z .0 e in
-        let n = chain-in done (λ x y k d. ord .right .closed x y k (inr d)) m (s .chain) in
-        let u : Chain i (s .at) z = subst (Chain i (s .at)) (s .on .on) (s .on .chain) in
-        derives↔descends .1 (record {
-          from = ord .part x m;
-          to = ord .part z (chain-in done (λ x y k d. ord .right .closed x y k (inl d)) n u);
-          mid = s .at;
-          down-a = s .chain;
-          down-i = u;
-        }),
-    λ d. let s = derives↔descends .0 d in ord .right .a-rows .right x m z .1 (record { at = s .mid; chain = s .down-a; on = record { at = z; chain = s .down-i; on = refl } }),
-  )
+  module _ (all : done ≡ live) where
+    is-done : (x : ℕ) → x ∈ live → x ∈ done
+    is-done x m = subst (λ (s : ℕ). x ∈ s) (sym all) m
 
-  pub finishing : Finishing t down left
-  finishing = record {
-    rows = ord .right .a-rows .rows;
-    part = λ x e. and-left (bit live x) (not (bit done x)) (sym (left-is x) ∙ e);
-    settled = λ x e. ⊎-elim
-        (by-done x)
-        (λ n z. (
-          λ m. absurd (false-no (ap (λ (w : ℕ). bit w z) (ord .right .a-rows .blank x n) ∙ bit-zero z) m),
-          λ d. absurd (false-no e (left-is x ∙ and-both (bit live x) (not (bit done x)) (d .from) (ap not n))),
+    ordered : InOrder t
+    ordered = record {
+      juniors = λ x y m h. ord .part y (ord .right .closed x y (is-done x m) (edge-entry t x y .0 h));
+      loopless = λ x m. ord .right .loopless live x (is-done x m);
+    }
+
+    by-done : (x : ℕ) → x ∈ done → (z : ℕ) → (z ∈ row down x) ↔ Derives t x z
+    by-done x m z = (
+      λ e.
+          let s = ord .right .a-rows .right x m z .0 e in
+          let n = chain-in done (λ x y k d. ord .right .closed x y k (inr d)) m (s .chain) in
+          let u : Chain i (s .at) z = subst (Chain i (s .at)) (s .on .on) (s .on .chain) in
+          derives↔descends .1 (record {
+            from = ord .part x m;
+            to = ord .part z (chain-in done (λ x y k d. ord .right .closed x y k (inl d)) n u);
+            mid = s .at;
+            down-a = s .chain;
+            down-i = u;
+          }),
+      λ d. let s = derives↔descends .0 d in ord .right .a-rows .right x m z .1 (record { at = s .mid; chain = s .down-a; on = record { at = z; chain = s .down-i; on = refl } }),
+    )
+
+    down-done : IsDown t down
+    down-done x z = ⊎-elim
+        (λ m. by-done x m z)
+        (λ n. (
+          λ e. absurd (false-no (ap (λ (w : ℕ). bit w z) (ord .right .a-rows .blank x n) ∙ bit-zero z) e),
+          λ d. absurd (false-no n (is-done x (d .from))),
         ))
-        (true-or-false (bit done x));
-  }
+        (true-or-false (bit done x))
 
--- the rest, each by its closures
-pub finish-start : {t : Tables} {down : List ℕ} {left : ℕ} → Finishing t down left → Filled (λ x v. (z : ℕ) → (z ∈ v) ↔ Derives t x z) left down left
-finish-start f = record { rows = f .rows; part = λ x e. e; settled = f .settled }
+    pub ordered-views : {up : List ℕ} → length up ≡ 64 → IsUp live down up → InOrderViews t down up true
+    ordered-views rows up-is = record {
+      in-order = (λ _. ordered, λ _. refl);
+      views = λ _. views-are down-done up-is;
+      blank = λ e. absurd (false-no e refl);
+      down-rows = ord .right .a-rows .rows;
+      up-rows = rows;
+    }
 
-pub finish-row : {live : ℕ} {i a : List ℕ} {x : ℕ} (one by-a by-i v : ℕ) → x < 64 → x ∈ live → ((y : ℕ) → bit one y ≡ same? x y) → ((y : ℕ) → (y ∈ by-a) ↔ Led a one y)
+  -- who is left waits for one who is left, so going down comes round
+  module _ (live-fits : live < 2 ^ 64) (done-fits : done < 2 ^ 64) where
+    waits : InOrder t → (x : ℕ) → x ∈ less live done → (y : ℕ) × (y ∈ less live done) × (kind t x y ≢ 0)
+    waits o x m =
+        let l = in-less live done live-fits x m in
+        let y : Waits i a done x = ⊎-elim (λ d. absurd (false-no (l .1) d)) (λ w. w) (ord .waiting x (l .0)) in
+        let h : kind t x (y .0) ≢ 0 = edge-entry t x (y .0) .1 (y .1) in
+        (y .0, less-is live done live-fits (y .0) ∙ and-both (bit live (y .0)) (not (bit done (y .0))) (o .juniors x (y .0) (l .0) h) (ap not (y .2)), h)
+
+    all-done : InOrder t → live ⊆ done
+    all-done o x m = ⊎-elim (λ d. d) (λ n. absurd (none n)) (true-or-false (bit done x))
+      where
+        none : bit done x ≡ false → ⊥
+        none n =
+            let here : x ∈ less live done = less-is live done live-fits x ∙ and-both (bit live x) (not (bit done x)) m (ap not n) in
+            let w = stuck (less live done) (waits o) (setOf-fits _) (λ z. false-no (ap (λ (s : ℕ). bit s x) z ∙ bit-zero x) here) in
+            o .loopless (w .0) (in-less live done live-fits (w .0) (w .1) .0) (w .2)
+
+    pub blank-views : {down′ up′ : List ℕ} → (done ≡ live → ⊥) → down′ ≡ replicate 64 0 → up′ ≡ replicate 64 0 → InOrderViews t down′ up′ false
+    blank-views n d u = record {
+      in-order = no-iff (λ o. n (ext 64 done live done-fits live-fits (λ x _. iff-same (bit done x) (bit live x) (ord .part x) (all-done o x))));
+      views = λ e. absurd (false-no refl e);
+      blank = λ _. (d, u);
+      down-rows = ap length d;
+      up-rows = ap length u;
+    }
+
+-- ---- each live role by its closures
+
+pub closures-start : (live : ℕ) (i a down : List ℕ) → down ≡ replicate 64 0 → Filled (λ x v. (z : ℕ) → (z ∈ v) ↔ Derives (tables live i a) x z) live down live
+closures-start live i a down e = subst (λ (d : List ℕ). Filled (λ x v. (z : ℕ) → (z ∈ v) ↔ Derives (tables live i a) x z) live d live) (sym e)
+    (filled-start (λ x v. (z : ℕ) → (z ∈ v) ↔ Derives (tables live i a) x z) live (λ x n z. (λ m. absurd (false-no (bit-zero z) m), λ d. absurd (false-no n (d .from)))))
+
+pub closures-row : {live : ℕ} {i a : List ℕ} {x : ℕ} (one by-a by-i v : ℕ) → x < 64 → x ∈ live → ((y : ℕ) → bit one y ≡ same? x y) → ((y : ℕ) → (y ∈ by-a) ↔ Led a one y)
     → ((y : ℕ) → (y ∈ by-i) ↔ Led i by-a y) → ((y : ℕ) → bit v y ≡ (bit live y && bit by-i y)) → (z : ℕ) → (z ∈ v) ↔ Derives (tables live i a) x z
-finish-row {live} {i} {a} {x} one by-a by-i v l m one-is a-is i-is v-is z = (
+closures-row {live} {i} {a} {x} one by-a by-i v l m one-is a-is i-is v-is z = (
   λ e.
       let p = sym (v-is z) ∙ e in
       let u = i-is z .0 (and-right (bit live z) (bit by-i z) p) in
@@ -309,38 +353,5 @@ finish-row {live} {i} {a} {x} one by-a by-i v l m one-is a-is i-is v-is z = (
       (i-is z .1 (record { start = s .mid; member = a-is (s .mid) .1 (record { start = x; member = one-is x ∙ same-self x l; chain = s .down-a }); chain = s .down-i })),
 )
 
-pub finish-end : {t : Tables} {down : List ℕ} {left rest : ℕ} → NoRole rest → Filled (λ x v. (z : ℕ) → (z ∈ v) ↔ Derives t x z) left down rest → IsDown t down
-finish-end empty inv x = inv .settled x (empty .none x)
-
--- ---- order
-
-module _ {live : ℕ} {i a by-i down : List ℕ} {done : ℕ} (left : ℕ) (fits : left < 2 ^ 64) (ord : Ordered live i a by-i down done)
-    (left-is : (x : ℕ) → bit left x ≡ (bit live x && not (bit done x))) where
-  -- where none is left, all live roles are done
-  all-done : left ≡ 0 → (x : ℕ) → x ∈ live → x ∈ done
-  all-done z x m = ⊎-elim (λ d. d)
-      (λ n. absurd (false-no (ap (λ (s : ℕ). bit s x) z ∙ bit-zero x) (left-is x ∙ and-both (bit live x) (not (bit done x)) m (ap not n)))) (true-or-false (bit done x))
-
-  pub order-is : (eqb left 0 ≡ true) ↔ InOrder (tables live i a)
-  order-is = (
-    λ e. let z = eqb-true left 0 e in record {
-      juniors = λ x y m h. ord .part y (ord .right .closed x y (all-done z x m) (edge-entry (tables live i a) x y .0 h));
-      loopless = λ x m. ord .right .loopless live x (all-done z x m);
-    },
-    λ o. ⊎-elim (λ z. z) (λ n. absurd (none o (λ z. false-no n (eq-eqb left 0 z)))) (true-or-false (eqb left 0)),
-  )
-    where
-      -- who is left waits for one who is left
-      down-left : InOrder (tables live i a) → (x : ℕ) → x ∈ left → (y : ℕ) × (y ∈ left) × (kind (tables live i a) x y ≢ 0)
-      down-left o x m =
-          let p : (bit live x && not (bit done x)) ≡ true = sym (left-is x) ∙ m in
-          let l : x ∈ live = and-left (bit live x) (not (bit done x)) p in
-          let y : Waits i a done x = ⊎-elim (λ d. absurd (false-no (ap not d) (and-right (bit live x) (not (bit done x)) p))) (λ w. w) (ord .waiting x l) in
-          let h : kind (tables live i a) x (y .0) ≢ 0 = edge-entry (tables live i a) x (y .0) .1 (y .1) in
-          (y .0, left-is (y .0) ∙ and-both (bit live (y .0)) (not (bit done (y .0))) (o .juniors x (y .0) l h) (ap not (y .2)), h)
-
-      -- so going down comes round
-      none : InOrder (tables live i a) → (left ≡ 0 → ⊥) → ⊥
-      none o n =
-          let w = stuck left (down-left o) fits n in
-          o .loopless (w .0) (and-left (bit live (w .0)) (not (bit done (w .0))) (sym (left-is (w .0)) ∙ w .1)) (w .2)
+pub closures-end : {t : Tables} {down : List ℕ} {live rest : ℕ} → NoRole rest → Filled (λ x v. (z : ℕ) → (z ∈ v) ↔ Derives t x z) live down rest → IsDown t down
+closures-end empty inv x = inv .settled x (empty .none x)

@@ -69,12 +69,6 @@ pub record Ordered (live : ℕ) (i a by-i down : List ℕ) (r : ℕ) : Type 0 wh
   pub part : r ⊆ live
   pub waiting : (x : ℕ) → x ∈ live → (x ∈ r) ⊎ Waits i a r x
 
--- the rows of all but some live roles are what they derive
-pub record Finishing (t : Tables) (down : List ℕ) (left : ℕ) : Type 0 where
-  pub rows : length down ≡ 64
-  pub part : left ⊆ t .live
-  pub settled : (x : ℕ) → bit left x ≡ false → (z : ℕ) → (z ∈ row down x) ↔ Derives t x z
-
 -- each row of down is what its role derives
 abbrev pub IsDown : Tables → List ℕ → Type 0
 IsDown t down = (x y : ℕ) → (y ∈ row down x) ↔ Derives t x y

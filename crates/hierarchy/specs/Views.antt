@@ -1,11 +1,11 @@
 -- The two tables that are worked out once a board and handed on: row x of `down` is the set of what x derives, row y of `up` the
 -- set of what derives y. The words of scope again, read off such tables; `Rattle.hierarchy.proofs.ViewLaws` says that they are the same.
 use mathlib.Core.Path.{_≡_}
-use mathlib.Core.Bool.{Bool, true}
+use mathlib.Core.Bool.{Bool, true, false}
 use mathlib.Core.Logic.{_≢_, _⊎_, _↔_}
 use mathlib.Core.List.{List}
 use Prim.Native.Nat.{ℕ, suc, _≤_, _<_}
-use lib.ListN.{length}
+use lib.ListN.{length, replicate}
 use Rattle.sets.specs.Sets.{_∈_}
 use Rattle.sets.specs.declared.Pick.{Pick}
 use Rattle.sets.specs.declared.Pick.the-variants.{Role, Nobody}
@@ -31,12 +31,13 @@ pub record InOrder (t : Tables) : Type 0 where
   pub juniors : (x y : ℕ) → Live t x → kind t x y ≢ 0 → Live t y
   pub loopless : (x : ℕ) → Live t x → Reaches t x x → ⊥
 
--- both views, of 64 rows each, and whether there is order
-pub record WorkedOut (t : Tables) (down up : List ℕ) (order : Bool) : Type 0 where
-  pub views : AreViews t down up
+-- Both views where there is order; where there is none, both are blank.
+pub record InOrderViews (t : Tables) (down up : List ℕ) (order : Bool) : Type 0 where
+  pub in-order : (order ≡ true) ↔ InOrder t
+  pub views : order ≡ true → AreViews t down up
+  pub blank : order ≡ false → (down ≡ replicate 64 0) × (up ≡ replicate 64 0)
   pub down-rows : length down ≡ 64
   pub up-rows : length up ≡ 64
-  pub in-order : (order ≡ true) ↔ InOrder t
 
 -- r is in the scope of a
 pub record ScopeBy (down up : List ℕ) (a r : ℕ) : Type 0 where

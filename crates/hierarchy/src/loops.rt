@@ -7,7 +7,7 @@ ghost use lib.ListN.{length};
 ghost use Rattle.sets.specs.Sets.{bit};
 ghost use Rattle.hierarchy.specs.Tables.{tables};
 ghost use Rattle.hierarchy.specs.Words.{Loops, Joined};
-use crate::views::work_out;
+use crate::views::views_in_order;
 use sets::has;
 use sets::union;
 use sets::within;
@@ -20,7 +20,7 @@ pub fn loops(i: [u64; 64], a: [u64; 64]) -> bool
 {
     let mut down = [0u64; 64];
     let mut up = [0u64; 64];
-    !work_out(EVERY, &i, &a, &mut down, &mut up)
+    !views_in_order(EVERY, &i, &a, &mut down, &mut up)
 }
 
 // The roles that role x may have as juniors: the live ones, and nobody where it isn't live.

@@ -8,6 +8,7 @@ ghost use lib.ListN.{length};
 ghost use Rattle.sets.specs.Sets.{_∈_};
 ghost use Rattle.hierarchy.specs.Views.{ScopeBy, AdminBy, ManagedBy, Nearest, Managing, IsRole, Climbing};
 use sets::Pick;
+use sets::but_lowest;
 use sets::has;
 use sets::lowest;
 use sets::union;
@@ -49,7 +50,7 @@ fn scope_of<'v>(down: &'v [u64; 64], up: &'v [u64; 64], a: usize) -> u64
         if in_scope(down, up, a, r) {
             found = with(found, r);
         }
-        rest = without(rest, r);
+        rest = but_lowest(rest);
     }
 }
 
@@ -67,7 +68,7 @@ fn administrators_of<'v>(down: &'v [u64; 64], up: &'v [u64; 64], r: usize) -> u6
         if in_scope(down, up, a, r) {
             found = with(found, a);
         }
-        rest = without(rest, a);
+        rest = but_lowest(rest);
     }
 }
 
@@ -84,7 +85,7 @@ fn nearest(up: &[u64; 64], administrators: u64) -> u64
         if within(administrators, with(up[m], m)) {
             found = with(found, m);
         }
-        rest = without(rest, m);
+        rest = but_lowest(rest);
     }
 }
 
@@ -110,7 +111,7 @@ fn administered<'v>(down: &'v [u64; 64], up: &'v [u64; 64], r: usize) -> bool
         if in_scope(down, up, a, r) {
             return true;
         }
-        rest = without(rest, a);
+        rest = but_lowest(rest);
     }
 }
 
@@ -126,7 +127,7 @@ pub fn managed<'v>(live: u64, down: &'v [u64; 64], up: &'v [u64; 64]) -> bool
         if !administered(down, up, r) {
             return false;
         }
-        rest = without(rest, r);
+        rest = but_lowest(rest);
     }
 }
 

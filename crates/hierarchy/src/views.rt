@@ -5,9 +5,10 @@ ghost use Prim.Native.Nat.{ℕ, _<_};
 ghost use lib.ListN.{length, replicate};
 ghost use Rattle.sets.specs.Sets.{_∈_};
 ghost use Rattle.hierarchy.specs.Tables.{tables};
-ghost use Rattle.hierarchy.specs.Views.{Led, WorkedOut};
-ghost use Rattle.hierarchy.specs.Engine.{InRows, Settled, Right, Swept, Ordered, Finishing, IsDown, IsUp, Marked};
+ghost use Rattle.hierarchy.specs.Views.{Led, AreViews, InOrderViews};
+ghost use Rattle.hierarchy.specs.Engine.{InRows, Settled, Right, Swept, Ordered, IsDown, IsUp, Marked};
 use sets::Pick;
+use sets::but_lowest;
 use sets::common;
 use sets::highest;
 use sets::lowest;
@@ -44,7 +45,7 @@ fn rows(table: &[u64; 64], s: u64) -> u64
             return sum;
         };
         sum = union(sum, table[y]);
-        rest = without(rest, y);
+        rest = but_lowest(rest);
     }
 }
 
@@ -118,18 +119,19 @@ fn order<'t>(
     }
 }
 
-// A role on the way to a loop, or to a role that isn't live, can't be settled by its juniors: each such role gets closures of its own.
-fn finish<'t>(live: u64, i: &'t [u64; 64], a: &'t [u64; 64], down: &mut [u64; 64], left: u64)
-    requires { ⌜ Finishing (tables live (now i) (now a)) (now down) left ⌝ }
-    ensures { λ _. ⌜ (length (now (down .exit)) ≡ 64) × IsDown (tables live (now (i .entry)) (now (a .entry))) (now (down .exit)) ⌝ }
+// What each live role derives, whatever order there is: by A and from there by I, among the live. Roles on the way to a loop can't be
+// settled by their juniors, so each gets closures of its own.
+fn closures<'t>(live: u64, i: &'t [u64; 64], a: &'t [u64; 64], down: &mut [u64; 64])
+    requires { ⌜ now down ≡ replicate 64 0 ⌝ }
+    ensures { λ _. ⌜ IsDown (tables live (now (i .entry)) (now (a .entry))) (now (down .exit)) ⌝ }
 {
-    let mut rest = left;
+    let mut rest = live;
     loop {
         let Pick::Role(x) = lowest(rest) else {
             return;
         };
         down[x] = common(live, closure(i, closure(a, single(x))));
-        rest = without(rest, x);
+        rest = but_lowest(rest);
     }
 }
 
@@ -144,7 +146,7 @@ fn mark(up: &mut [u64; 64], s: u64, x: usize)
             return;
         };
         up[y] = with(up[y], x);
-        rest = without(rest, y);
+        rest = but_lowest(rest);
     }
 }
 
@@ -159,26 +161,44 @@ fn turn(live: u64, down: &[u64; 64], up: &mut [u64; 64])
             return;
         };
         mark(up, down[x], x);
-        rest = without(rest, x);
+        rest = but_lowest(rest);
     }
 }
 
-// Both views of a board, and whether its live roles are in order: row x of `down` is the set of what x derives, row y of `up` the set
-// of what derives y.
-pub fn work_out<'t>(
+// Both views of a board whose live roles are in order: row x of `down` is the set of what x derives, row y of `up` the set of what
+// derives y. Where there is no order, both are left blank, and nothing is worked out.
+pub fn views_in_order<'t>(
     live: u64,
     i: &'t [u64; 64],
     a: &'t [u64; 64],
     down: &mut [u64; 64],
     up: &mut [u64; 64],
 ) -> bool
-    ensures { λ r. ⌜ WorkedOut (tables live (now (i .entry)) (now (a .entry))) (now (down .exit)) (now (up .exit)) r ⌝ }
+    ensures { λ r. ⌜ InOrderViews (tables live (now (i .entry)) (now (a .entry))) (now (down .exit)) (now (up .exit)) r ⌝ }
 {
     let mut by_i = [0u64; 64];
     blank(down);
-    let done = order(live, i, a, &mut by_i, down);
-    let left = minus(live, done);
-    finish(live, i, a, down, left);
+    if order(live, i, a, &mut by_i, down) != live {
+        blank(down);
+        blank(up);
+        return false;
+    }
     turn(live, down, up);
-    left == 0
+    true
+}
+
+// Both views of any board.
+pub fn work_out<'t>(
+    live: u64,
+    i: &'t [u64; 64],
+    a: &'t [u64; 64],
+    down: &mut [u64; 64],
+    up: &mut [u64; 64],
+)
+    ensures { λ _. ⌜ AreViews (tables live (now (i .entry)) (now (a .entry))) (now (down .exit)) (now (up .exit)) ⌝ }
+{
+    if !views_in_order(live, i, a, down, up) {
+        closures(live, i, a, down);
+        turn(live, down, up);
+    }
 }

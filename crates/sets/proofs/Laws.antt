@@ -5,13 +5,13 @@ use mathlib.Core.Logic.{_⊎_, ⊎-elim, _↔_}
 use Prim.Native.Nat.{ℕ, zero, suc, _-_, _*_, _/_, _%_, _^_, _≤_, _<_, zero-le, suc-le-suc}
 use native.Mathlib.Nat.{mod-lt, mod-eq-of-lt, one-mul, le-refl, le-antisymm, le-of-suc-le-suc, pow-suc, mul-comm, div-lt-iff-lt-mul, le-div-iff-mul-le}
 use native.Mathlib.Omega.{arith}
-use lib.Dec.{eqb, ltb, lit<}
+use lib.Dec.{eqb, eqb·suc-zero, eqb·suc-suc, ltb, lit<}
 use lib.Arith.{bin-ind}
 use lib.Pow.{pow-lt, pow-pos}
 use lib.Bits.{and-mask, bitAnd}
 use lib.Count.{ones, ones-step, trailingZeros, under, leadingZeros, leading-top}
-use borrow.Author.Tests.{lt-ltb, le-ltb, eqb-true, eq-eqb}
-use Rattle.sets.specs.Sets.{bit, _∈_, _⊆_, same?, num, setOf, Lowest, HighestRole, Highest}
+use borrow.Author.Tests.{lt-ltb, le-ltb, eqb-true, eqb-false, eq-eqb}
+use Rattle.sets.specs.Sets.{bit, _∈_, _⊆_, same?, num, setOf, LowestRole, NoRole, Lowest, ButLowest, HighestRole, Highest}
 use Rattle.sets.specs.declared.Pick.{Pick}
 use Rattle.sets.specs.declared.Pick.the-variants.{Role, Nobody}
 use Rattle.sets.proofs.Bools.{true-or-false, and-left, and-both, lt-or-ge, false-no, not-so, iff-same}
@@ -214,3 +214,39 @@ but s r = setOf (λ x. bit s x && not (same? r x))
 
 pub bit-but : (s r : ℕ) → s < 2 ^ 64 → (x : ℕ) → bit (but s r) x ≡ (bit s x && not (same? r x))
 bit-but s r h x = in-setOf (λ x. bit s x && not (same? r x)) x (λ e. bit-lt 64 h (and-left (bit s x) (not (same? r x)) e))
+
+-- ---- all but the lowest
+
+-- with its lowest digit 1 at r, s less 1 has the same digits above r, and 0 there
+less-one : (r s x : ℕ) → bit s r ≡ true → ((y : ℕ) → y < r → bit s y ≡ false) → bit s x ≡ true → bit (s - 1) x ≡ not (eqb x r)
+less-one zero s zero m low e = bit-low (s - 1) ∙ ap (λ (n : ℕ). eqb n 1) even
+  where
+    even : (s - 1) % 2 ≡ 0
+    even = let h = eqb-true (s % 2) 1 (sym (bit-low s) ∙ m) in omega arith
+less-one zero s (suc x) m low e =
+    let h = eqb-true (s % 2) 1 (sym (bit-low s) ∙ m) in
+    let half : (s - 1) / 2 ≡ s / 2 = omega arith in
+    bit-high (s - 1) x ∙ ap (λ (n : ℕ). bit n x) half ∙ sym (bit-high s x) ∙ e ∙ sym (ap not (eqb·suc-zero x))
+less-one (suc r) s zero m low e = absurd (false-no (low 0 (suc-le-suc zero-le)) e)
+less-one (suc r) s (suc x) m low e =
+    let z = eqb-false (s % 2) 1 (sym (bit-low s) ∙ low 0 (suc-le-suc zero-le)) in
+    let half : (s - 1) / 2 ≡ s / 2 - 1 = omega arith in
+    bit-high (s - 1) x ∙ ap (λ (n : ℕ). bit n x) half
+    ∙ less-one r (s / 2) x (sym (bit-high s r) ∙ m) (λ y l. sym (bit-high s y) ∙ low (suc y) (suc-le-suc l)) (sym (bit-high s x) ∙ e)
+    ∙ sym (ap not (eqb·suc-suc x r))
+
+pub but-lowest-none : (s : ℕ) → s ≡ 0 → ButLowest s 0
+but-lowest-none s z = record {
+  rest = λ r l x. absurd (false-no (ap (λ (n : ℕ). bit n r) z ∙ bit-zero r) (l .member));
+  none = λ _. record { none = bit-zero };
+}
+
+pub but-lowest-is : (s : ℕ) → s < 2 ^ 64 → ButLowest s (bitAnd s (s - 1))
+but-lowest-is s f = record {
+  rest = λ r l x. bit-and s (s - 1) x ∙ go r l x (bit s x) refl;
+  none = λ n. record { none = λ x. bit-and s (s - 1) x ∙ ap (λ (p : Bool). p && bit (s - 1) x) (n .none x) };
+}
+  where
+    go : (r : ℕ) → LowestRole s r → (x : ℕ) (p : Bool) → bit s x ≡ p → (bit s x && bit (s - 1) x) ≡ (bit s x && not (same? r x))
+    go r l x true e = ap (λ (q : Bool). bit s x && q) (less-one r s x (l .member) (λ y k. not-so (bit s y) (λ m. absurd (omega (arith, l .least y m)))) e ∙ ap not (sym (same-is r x (l .role))))
+    go r l x false e = ap (λ (q : Bool). q && bit (s - 1) x) e ∙ sym (ap (λ (q : Bool). q && not (same? r x)) e)

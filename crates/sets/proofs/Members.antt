@@ -4,7 +4,7 @@ use mathlib.Core.Bool.{Bool, false, not, _&&_, and-true}
 use mathlib.Core.Logic.{_⊎_, inl, inr, ⊎-elim}
 use Prim.Native.Nat.{ℕ, _<_}
 use lib.Count.{ones}
-use Rattle.sets.specs.Sets.{bit, _∈_, _⊆_, same?, LowestRole, NoRole, Lowest, HighestRole, Highest}
+use Rattle.sets.specs.Sets.{bit, _∈_, _⊆_, same?, LowestRole, NoRole, Lowest, ButLowest, HighestRole, Highest}
 use Rattle.sets.specs.declared.Pick.{Pick}
 use Rattle.sets.specs.declared.Pick.the-variants.{Role, Nobody}
 use Rattle.sets.proofs.Bools.{true-or-false, and-left, and-both}
@@ -57,6 +57,9 @@ module _ {rest x rest′ : ℕ} (t : Taken rest x rest′) where
 
   pub taken-kept : (y : ℕ) → y ∈ rest → (y ∈ rest′) ⊎ (y ≡ x)
   taken-kept = drawn-kept drawn
+
+pub taken-by : {rest x rest′ : ℕ} → LowestRole rest x → ButLowest rest rest′ → Taken rest x rest′
+taken-by {x = x} l b = record { lowest = l; rest-is = b .rest x l }
 
 -- what the answer of `lowest` says, by its two cases
 pub picked : {s r : ℕ} {p : Pick} → p ≡ Role r → Lowest s p → LowestRole s r

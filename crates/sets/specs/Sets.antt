@@ -1,6 +1,6 @@
 -- Document 01 numbers roles from 0 to 63, so a set of roles is one 64-bit number: role r is in it when its binary digit r is 1.
 use mathlib.Core.Path.{_≡_}
-use mathlib.Core.Bool.{Bool, true, false, _&&_}
+use mathlib.Core.Bool.{Bool, true, false, not, _&&_}
 use Prim.Native.Nat.{ℕ, zero, suc, _+_, _*_, _/_, _%_, _^_, _≤_, _<_}
 use lib.Dec.{eqb, ltb}
 use Rattle.sets.specs.declared.Pick.{Pick}
@@ -49,6 +49,11 @@ pub record NoRole (s : ℕ) : Type 0 where
 abbrev pub Lowest : ℕ → Pick → Type 0
 Lowest s (Role r) = LowestRole s r
 Lowest s Nobody = NoRole s
+
+-- t is s but its lowest role
+pub record ButLowest (s t : ℕ) : Type 0 where
+  pub rest : (r : ℕ) → LowestRole s r → (x : ℕ) → bit t x ≡ (bit s x && not (same? r x))
+  pub none : NoRole s → NoRole t
 
 -- r is the highest role of s
 pub record HighestRole (s r : ℕ) : Type 0 where

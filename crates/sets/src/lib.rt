@@ -6,7 +6,7 @@ ghost use mathlib.Core.Bool.{true, false, not, _&&_, _||_};
 ghost use mathlib.Core.Logic.{_↔_};
 ghost use Prim.Native.Nat.{ℕ};
 ghost use lib.Count.{ones};
-ghost use Rattle.sets.specs.Sets.{bit, same?, _⊆_, Lowest, Highest};
+ghost use Rattle.sets.specs.Sets.{bit, same?, _⊆_, Lowest, ButLowest, Highest};
 
 // One role of several, or nobody: a caller has to meet both.
 pub enum Pick {
@@ -84,6 +84,16 @@ pub fn lowest(s: u64) -> Pick
         return Pick::Nobody;
     }
     Pick::Role(u64::trailing_zeros(s) as usize)
+}
+
+// The roles of s but the lowest: what a loop over s goes on with, without waiting for the lowest to be named.
+pub fn but_lowest(s: u64) -> u64
+    ensures { λ y. ⌜ ButLowest s y ⌝ }
+{
+    if s == 0 {
+        return 0;
+    }
+    s & (s - 1)
 }
 
 // The highest role of s.

@@ -14,7 +14,7 @@ trouble-requires : tie.Need-trouble-requires
 trouble-requires c κs = search needs
 
 returns-2 : tie.Need-returns-2
-returns-2 c = open-refused (c .before .before .before .before .before .before .before .before .before .tried .ensures) (c .before .before .before .before .before .before .before .if1 .left) refl refl (c .trouble .ensures .seen)
+returns-2 c = open-refused (c .before .before .before .before .before .before .before .before .before .tried .ensures) (c .before .before .before .before .before .before .before .if1 .left) refl refl (c .trouble .ensures)
 
 pub open-spec : {M : Type 1} → statement M
 open-spec = tie.close (tie.spec tried-requires returns trouble-requires returns-2)

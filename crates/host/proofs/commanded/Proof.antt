@@ -41,14 +41,14 @@ same-length : tie.Need-same-length
 same-length c = search needs
 
 returns-3 : tie.Need-returns-3
-returns-3 c = 
+returns-3 c =
     let next = step-done (decided (c .before .before .before .before .before .before .before .before .before .before)) (c .before .before .before .before .before .before .before .before .if2 .left) in
     let w = put-writes (sound-next next) (c .before .before .before .before .before .put .ensures) in
     let is-12 = write-refused next w (c .before .if3 .taken) in
     no-room (open-read (c .before .before .before .before .before .before .before .before .before .before .before .before .before .before .before .«open» .ensures) (c .before .before .before .before .before .before .before .before .before .before .before .before .before .if1 .left)) next (write-is w is-12) (c .packed3 .ensures ∙ ap (λ (k : ℕ). answer k 2 0) is-12)
 
 cast-packed : tie.Need-cast-packed
-cast-packed c = 
+cast-packed c =
     let short = sound-length (c .before .before .before .before .before .before .before .before .before .before .decide .result .board) (sound-next (step-done (decided (c .before .before .before .before .before .before .before .before .before .before)) (c .before .before .before .before .before .before .before .before .if2 .left))) in
     record { fits = omega (arith, c .before .before .before .before .before .put .ensures .done (c .before .if3 .left) .0) }
 
@@ -59,7 +59,7 @@ same-length-2 : tie.Need-same-length-2
 same-length-2 c = search needs
 
 returns-4 : tie.Need-returns-4
-returns-4 c = 
+returns-4 c =
     let next = step-done (decided (c .before .before .before .before .before .before .before .before .before .before .before)) (c .before .before .before .before .before .before .before .before .before .if2 .left) in
     done (open-read (c .before .before .before .before .before .before .before .before .before .before .before .before .before .before .before .before .«open» .ensures) (c .before .before .before .before .before .before .before .before .before .before .before .before .before .before .if1 .left)) next (write-is (put-writes (sound-next next) (c .before .before .before .before .before .before .put .ensures)) (c .before .before .if3 .left)) (c .packed4 .ensures)
 

@@ -14,17 +14,17 @@ use borrow.Author.Needs.{needs}
 use Rattle.board.proofs.commands.refused_after.Statement.{statement}
 use Rattle.board.proofs.commands.refused_after.Tie as tie
 
-work-out-requires : tie.Need-work-out-requires
-work-out-requires c κs = search needs
+views-in-order-requires : tie.Need-views-in-order-requires
+views-in-order-requires c κs = search needs
 
 loopless : (c : tie.Else1) → Joined (tables (c .before .before .before .before .args .live) (c .before .before .before .before .args .i .now) (c .before .before .before .before .args .a .now)) → Loops (tables (c .before .before .before .before .args .live) (c .before .before .before .before .args .i .now) (c .before .before .before .before .args .a .now)) → ⊥
-loopless c joined = order-loopless joined .0 (holds (c .before .work-out .ensures .in-order) (not-false _ (c .if1 .left)))
+loopless c joined = order-loopless joined .0 (holds (c .before .views-in-order .ensures .in-order) (not-false _ (c .if1 .left)))
 
 outside-at : (c : tie.After-outside) → (c .outside .result ≡ true) ↔ Outside (boardOf (c .before .before .before .before .before .before .before .args .live) (c .before .before .before .before .before .before .before .args .i .now) (c .before .before .before .before .before .before .before .args .a .now)) (c .before .before .before .before .before .before .before .args .c)
-outside-at c = Iff·trans (c .outside .ensures) (outside-row _ _ (c .before .before .before .before .work-out .ensures .views))
+outside-at c = Iff·trans (c .outside .ensures) (outside-row _ _ (c .before .before .before .before .views-in-order .ensures .views (not-false _ (c .before .before .before .if1 .left))))
 
 returns : tie.Need-returns
-returns c = λ shaped joined. hit _ _ _ (looped shaped joined (fails (c .before .work-out .ensures .in-order) (not-true _ (c .if1 .taken))))
+returns c = λ shaped joined. hit _ _ _ (looped shaped joined (fails (c .before .views-in-order .ensures .in-order) (not-true _ (c .if1 .taken))))
 
 outside-requires : tie.Need-outside-requires
 outside-requires c κs = search needs
@@ -36,16 +36,16 @@ managed-requires : tie.Need-managed-requires
 managed-requires c κs = search needs
 
 returns-3 : tie.Need-returns-3
-returns-3 c = λ shaped joined. pass _ _ _ _ (loopless (c .before .before .before .before .before .before .before .before) joined) (pass _ _ _ _ (fails (outside-at (c .before .before .before .before .before)) (c .before .before .before .before .if2 .left)) (pass _ _ _ _ (λ n. n (managed-by (c .before .before .before .before .before .before .before .before .before .work-out .ensures .views) .0 (holds (c .before .managed .ensures) (c .if3 .taken)))) none))
+returns-3 c = λ shaped joined. pass _ _ _ _ (loopless (c .before .before .before .before .before .before .before .before) joined) (pass _ _ _ _ (fails (outside-at (c .before .before .before .before .before)) (c .before .before .before .before .if2 .left)) (pass _ _ _ _ (λ n. n (managed-by (c .before .before .before .before .before .before .before .before .before .views-in-order .ensures .views (not-false _ (c .before .before .before .before .before .before .before .before .if1 .left))) .0 (holds (c .before .managed .ensures) (c .if3 .taken)))) none))
 
 returns-4 : tie.Need-returns-4
-returns-4 c = λ shaped joined. pass _ _ _ _ (loopless (c .before .before .before .before .before .before .before .before) joined) (pass _ _ _ _ (fails (outside-at (c .before .before .before .before .before)) (c .before .before .before .before .if2 .left)) (hit _ _ _ (λ m. fails (c .before .managed .ensures) (c .if3 .left) (managed-by (c .before .before .before .before .before .before .before .before .before .work-out .ensures .views) .1 m))))
+returns-4 c = λ shaped joined. pass _ _ _ _ (loopless (c .before .before .before .before .before .before .before .before) joined) (pass _ _ _ _ (fails (outside-at (c .before .before .before .before .before)) (c .before .before .before .before .if2 .left)) (hit _ _ _ (λ m. fails (c .before .managed .ensures) (c .if3 .left) (managed-by (c .before .before .before .before .before .before .before .before .before .views-in-order .ensures .views (not-false _ (c .before .before .before .before .before .before .before .before .if1 .left))) .1 m))))
 
 pub refused-after-spec : {M : Type 1} → statement M
 refused-after-spec =
     tie.close
     (tie.spec
-    work-out-requires
+    views-in-order-requires
     returns
     outside-requires
     returns-2

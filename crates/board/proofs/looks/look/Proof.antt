@@ -26,7 +26,7 @@ trouble-requires : tie.Need-trouble-requires
 trouble-requires c κs = search needs
 
 returns-3 : tie.Need-returns-3
-returns-3 c = look-is (shaped (c .before .before .before .before .before .before .before)) (sym (c .before .before .before .before .before .before .has .ensures) ∙ not-false _ (c .before .before .before .before .before .if1 .left)) (holds (c .before .before .before .before .joined .ensures (c .before .before .before .before .before .before .before .pre .0 .rows) (c .before .before .before .before .before .before .before .pre .1 .rows)) (not-false _ (c .before .before .before .if2 .left))) (c .trouble .ensures)
+returns-3 c = look-is (c .trouble .result) (c .trouble .ensures) (shaped (c .before .before .before .before .before .before .before)) (sym (c .before .before .before .before .before .before .has .ensures) ∙ not-false _ (c .before .before .before .before .before .if1 .left)) (holds (c .before .before .before .before .joined .ensures (c .before .before .before .before .before .before .before .pre .0 .rows) (c .before .before .before .before .before .before .before .pre .1 .rows)) (not-false _ (c .before .before .before .if2 .left)))
 
 pub look-spec : {M : Type 1} → statement M
 look-spec =

@@ -1,7 +1,7 @@
 use borrow.Author.Needs.{needs}
 use lib.Count.{ones}
 use native.Mathlib.Omega.{arith}
-use Rattle.sets.proofs.Members.{Taken, taken-less, picked, nobody}
+use Rattle.sets.proofs.Members.{Taken, taken-by, taken-less, picked, nobody}
 use Rattle.board.proofs.Edits.{Entering, entering-start, entering-turn, entering-end}
 use Rattle.board.proofs.tables.enter.Statement.{statement}
 use Rattle.board.proofs.tables.enter.Tie as tie
@@ -42,11 +42,11 @@ mul-t c = let l = picked (c .before .before .before .x .given .1) (c .before .be
 element-write-t : tie.Need-element-write-t Inv-loop μ-loop
 element-write-t c = let l = picked (c .before .before .before .x .given .1) (c .before .before .before .before .before .lowest .ensures) in omega arith
 
-without-requires : tie.Need-without-requires Inv-loop μ-loop
-without-requires c κs = search needs
+but-lowest-requires : tie.Need-but-lowest-requires Inv-loop μ-loop
+but-lowest-requires c κs = search needs
 
-taken : (c : tie.After-without Inv-loop μ-loop) → Taken (c .before .before .before .before .before .before .before .loop .rest) (c .before .before .before .before .x .given .0 .0) (c .without .result)
-taken c = record { lowest = picked (c .before .before .before .before .x .given .1) (c .before .before .before .before .before .before .lowest .ensures); rest-is = c .without .ensures }
+taken : (c : tie.After-but-lowest Inv-loop μ-loop) → Taken (c .before .before .before .before .before .before .before .loop .rest) (c .before .before .before .before .x .given .0 .0) (c .but-lowest .result)
+taken c = taken-by (picked (c .before .before .before .before .x .given .1) (c .before .before .before .before .before .before .lowest .ensures)) (c .but-lowest .ensures)
 
 loop-less : tie.Need-loop-less Inv-loop μ-loop
 loop-less c = taken-less (taken c)
@@ -70,6 +70,6 @@ enter-spec =
     put-requires
     mul-t
     element-write-t
-    without-requires
+    but-lowest-requires
     loop-less
     loop-again)

@@ -41,17 +41,17 @@ cast-out c = let l = low c in omega arith
 slice-write-out : tie.Need-slice-write-out Inv-loop μ-loop
 slice-write-out c = roles-put-room (c .before .before .before .before .before .before .pre) (c .before .before .before .before .loop .inv) (low c)
 
-without-requires : tie.Need-without-requires Inv-loop μ-loop
-without-requires c κs = search needs
+but-lowest-requires : tie.Need-but-lowest-requires Inv-loop μ-loop
+but-lowest-requires c κs = search needs
 
 add-k : tie.Need-add-k Inv-loop μ-loop
 add-k c = let l = roles-put-few (c .before .before .before .before .before .before .before .pre) (c .before .before .before .before .before .loop .inv) in omega arith
 
 loop-less : tie.Need-loop-less Inv-loop μ-loop
-loop-less c = let l = low (c .before) in ones-less _ _ _ (l .role) (l .member) (c .without .ensures)
+loop-less c = let l = low (c .before) in ones-less _ _ _ (l .role) (l .member) (c .but-lowest .ensures .rest _ l)
 
 loop-again : tie.Need-loop-again Inv-loop μ-loop
-loop-again c = roles-put-turn (c .before .before .before .before .before .before .before .pre) (c .before .before .before .before .before .loop .inv) (low (c .before)) (c .without .result) (c .without .ensures)
+loop-again c = roles-put-turn (c .before .before .before .before .before .before .before .pre) (c .before .before .before .before .before .loop .inv) (low (c .before)) (c .but-lowest .result) (c .but-lowest .ensures .rest _ (low (c .before)))
 
 pub put-roles-spec : {M : Type 1} → statement M
 put-roles-spec =
@@ -67,7 +67,7 @@ put-roles-spec =
     returns
     cast-out
     slice-write-out
-    without-requires
+    but-lowest-requires
     add-k
     loop-less
     loop-again)

@@ -78,14 +78,14 @@ add-out-2 c = let l = few (c .before .before .before) in omega arith
 slice-write-out-3 : tie.Need-slice-write-out-3 Inv-loop μ-loop
 slice-write-out-3 c = let l = room (c .before .before .before) in simp length-set (omega arith)
 
-without-requires : tie.Need-without-requires Inv-loop μ-loop
-without-requires c κs = search needs
+but-lowest-requires : tie.Need-but-lowest-requires Inv-loop μ-loop
+but-lowest-requires c κs = search needs
 
 add-at : tie.Need-add-at Inv-loop μ-loop
 add-at c = let l = few (c .before .before .before .before) in omega arith
 
 loop-less : tie.Need-loop-less Inv-loop μ-loop
-loop-less c = let l = low (c .before .before .before .before) in ones-less _ _ _ (l .role) (l .member) (c .without .ensures)
+loop-less c = let l = low (c .before .before .before .before) in ones-less _ _ _ (l .role) (l .member) (c .but-lowest .ensures .rest _ l)
 
 loop-again : tie.Need-loop-again Inv-loop μ-loop
 loop-again c =
@@ -93,9 +93,9 @@ loop-again c =
     let s = k .before .before .before .before .before .before .before in
     let l = k .before .before .before .before .loop in
     subst
-    (λ (z : ℕ). RowPut (s .args .senior) (s .args .i) (s .args .a) (s .args .out .now) (set (set (set (l .out) (l .at) (s .args .senior)) (l .at + 1) (k .before .junior .given .0 .0)) (l .at + 2) z) (c .without .result) (l .at + 3))
+    (λ (z : ℕ). RowPut (s .args .senior) (s .args .i) (s .args .a) (s .args .out .now) (set (set (set (l .out) (l .at) (s .args .senior)) (l .at + 1) (k .before .junior .given .0 .0)) (l .at + 2) z) (c .but-lowest .result) (l .at + 3))
     (sym (c .before .kind .ensures ∙ ap₂ kindOf (c .before .before .before .has .ensures) (c .before .before .has2 .ensures)))
-    (row-put-turn (s .pre .1) (l .inv) (low k) (c .without .result) (c .without .ensures))
+    (row-put-turn (s .pre .1) (l .inv) (low k) (c .but-lowest .result) (c .but-lowest .ensures .rest _ (low k)))
 
 pub put-row-spec : {M : Type 1} → statement M
 put-row-spec =
@@ -120,7 +120,7 @@ put-row-spec =
     kind-requires
     add-out-2
     slice-write-out-3
-    without-requires
+    but-lowest-requires
     add-at
     loop-less
     loop-again)

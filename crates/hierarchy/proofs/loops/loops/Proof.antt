@@ -9,11 +9,11 @@ use borrow.Author.Needs.{needs}
 use Rattle.hierarchy.proofs.loops.loops.Statement.{statement}
 use Rattle.hierarchy.proofs.loops.loops.Tie as tie
 
-work-out-requires : tie.Need-work-out-requires
-work-out-requires c κs = search needs
+views-in-order-requires : tie.Need-views-in-order-requires
+views-in-order-requires c κs = search needs
 
 returns : tie.Need-returns
-returns c = loops-found (c .work-out .result) rows-i rows-a (λ x. omega (arith, fits-i x)) (λ x. omega (arith, fits-a x)) (c .work-out .ensures .in-order)
+returns c = loops-found (c .views-in-order .result) rows-i rows-a (λ x. omega (arith, fits-i x)) (λ x. omega (arith, fits-a x)) (c .views-in-order .ensures .in-order)
   where
     rows-i : length (c .before .before .before .before .before .args .t1) ≡ 64
     rows-i = search needs
@@ -28,4 +28,4 @@ returns c = loops-found (c .work-out .result) rows-i rows-a (λ x. omega (arith,
     fits-a x = search needs
 
 pub loops-spec : {M : Type 1} → statement M
-loops-spec = tie.close (tie.spec work-out-requires returns)
+loops-spec = tie.close (tie.spec views-in-order-requires returns)

@@ -2,7 +2,7 @@ use borrow.Author.Needs.{needs}
 use lib.Count.{ones}
 use mathlib.Core.Path.{refl}
 use Rattle.sets.proofs.Bools.{false-no}
-use Rattle.sets.proofs.Members.{Taken, picked, nobody, taken-less}
+use Rattle.sets.proofs.Members.{Taken, taken-by, picked, nobody, taken-less}
 use Rattle.hierarchy.specs.Views.{ScopeBy}
 use Rattle.hierarchy.proofs.Sift.{Sifted, sift-start, sift-out, sift-end}
 use Rattle.hierarchy.proofs.Managing.{admin-found, no-admin-found}
@@ -45,11 +45,11 @@ in-scope-requires c κs = (picked (c .before .a .given .1) (c .before .before .b
 returns-2 : tie.Need-returns-2 Inv-loop μ-loop
 returns-2 c = admin-found (c .before .before .before .before .before .before .before .without .result) (c .before .before .before .before .before .before .before .before .before .pre) (c .before .before .before .before .before .before .before .without .ensures) (c .before .before .before .before .before .before .loop .inv .part _ (picked (c .before .before .before .a .given .1) (c .before .before .before .before .before .lowest .ensures) .member)) (c .before .in-scope .ensures .0 (c .if1 .taken))
 
-without-requires-2 : tie.Need-without-requires-2 Inv-loop μ-loop
-without-requires-2 c κs = search needs
+but-lowest-requires : tie.Need-but-lowest-requires Inv-loop μ-loop
+but-lowest-requires c κs = search needs
 
-taken : (c : tie.After-without2 Inv-loop μ-loop) → Taken (c .before .before .before .before .before .before .before .loop .rest) (c .before .before .before .before .a .given .0 .0) (c .without2 .result)
-taken c = record { lowest = picked (c .before .before .before .before .a .given .1) (c .before .before .before .before .before .before .lowest .ensures); rest-is = c .without2 .ensures }
+taken : (c : tie.After-but-lowest Inv-loop μ-loop) → Taken (c .before .before .before .before .before .before .before .loop .rest) (c .before .before .before .before .a .given .0 .0) (c .but-lowest .result)
+taken c = taken-by (picked (c .before .before .before .before .a .given .1) (c .before .before .before .before .before .before .lowest .ensures)) (c .but-lowest .ensures)
 
 loop-less : tie.Need-loop-less Inv-loop μ-loop
 loop-less c = taken-less (taken c)
@@ -73,6 +73,6 @@ administered-spec =
     returns
     in-scope-requires
     returns-2
-    without-requires-2
+    but-lowest-requires
     loop-less
     loop-again)

@@ -2,7 +2,7 @@ use borrow.Author.Needs.{needs}
 use lib.Count.{ones}
 use borrow.Author.Tests.{not-true, not-false}
 use Rattle.sets.proofs.Bools.{false-no}
-use Rattle.sets.proofs.Members.{Taken, picked, nobody, taken-less}
+use Rattle.sets.proofs.Members.{Taken, taken-by, picked, nobody, taken-less}
 use Rattle.hierarchy.proofs.Managing.{Managing-so-far, managed-start, managed-turn, managed-end, unmanaged}
 use Rattle.hierarchy.proofs.scopes.managed.Statement.{statement}
 use Rattle.hierarchy.proofs.scopes.managed.Tie as tie
@@ -37,11 +37,11 @@ administered-requires c κs = picked (c .before .r .given .1) (c .before .before
 returns-2 : tie.Need-returns-2 Inv-loop μ-loop
 returns-2 c = unmanaged (picked (c .before .before .before .r .given .1) (c .before .before .before .before .before .lowest .ensures) .member) (c .before .before .before .before .before .before .loop .inv) (λ w. false-no (not-true _ (c .if1 .taken)) (c .before .administered .ensures .1 w))
 
-without-requires-2 : tie.Need-without-requires-2 Inv-loop μ-loop
-without-requires-2 c κs = search needs
+but-lowest-requires : tie.Need-but-lowest-requires Inv-loop μ-loop
+but-lowest-requires c κs = search needs
 
-taken : (c : tie.After-without2 Inv-loop μ-loop) → Taken (c .before .before .before .before .before .before .before .loop .rest) (c .before .before .before .before .r .given .0 .0) (c .without2 .result)
-taken c = record { lowest = picked (c .before .before .before .before .r .given .1) (c .before .before .before .before .before .before .lowest .ensures); rest-is = c .without2 .ensures }
+taken : (c : tie.After-but-lowest Inv-loop μ-loop) → Taken (c .before .before .before .before .before .before .before .loop .rest) (c .before .before .before .before .r .given .0 .0) (c .but-lowest .result)
+taken c = taken-by (picked (c .before .before .before .before .r .given .1) (c .before .before .before .before .before .before .lowest .ensures)) (c .but-lowest .ensures)
 
 loop-less : tie.Need-loop-less Inv-loop μ-loop
 loop-less c = taken-less (taken c)
@@ -63,6 +63,6 @@ managed-spec =
     returns
     administered-requires
     returns-2
-    without-requires-2
+    but-lowest-requires
     loop-less
     loop-again)

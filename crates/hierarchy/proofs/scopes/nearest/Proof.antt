@@ -4,7 +4,7 @@ use Prim.Native.Nat.{ℕ}
 use native.Mathlib.Omega.{arith}
 use lib.Count.{ones}
 use Rattle.sets.specs.Sets.{_∈_}
-use Rattle.sets.proofs.Members.{Taken, picked, nobody, taken-less}
+use Rattle.sets.proofs.Members.{Taken, taken-by, picked, nobody, taken-less}
 use Rattle.hierarchy.specs.Tables.{row}
 use Rattle.hierarchy.proofs.Sift.{Sifted, sift-start, sift-in, sift-out, sift-end}
 use Rattle.hierarchy.proofs.Managing.{nearest-test, nearest-found}
@@ -48,11 +48,11 @@ within-requires c κs = search needs
 with-requires-2 : tie.Need-with-requires-2 Inv-loop μ-loop
 with-requires-2 c κs = search needs
 
-without-requires : tie.Need-without-requires Inv-loop μ-loop
-without-requires c κs = search needs
+but-lowest-requires : tie.Need-but-lowest-requires Inv-loop μ-loop
+but-lowest-requires c κs = search needs
 
-taken : (c : tie.After-without Inv-loop μ-loop) → Taken (c .before .before .before .before .before .before .before .before .before .loop .rest) (c .before .before .before .before .before .before .m .given .0 .0) (c .without .result)
-taken c = record { lowest = picked (c .before .before .before .before .before .before .m .given .1) (c .before .before .before .before .before .before .before .before .lowest .ensures); rest-is = c .without .ensures }
+taken : (c : tie.After-but-lowest Inv-loop μ-loop) → Taken (c .before .before .before .before .before .before .before .before .before .loop .rest) (c .before .before .before .before .before .before .m .given .0 .0) (c .but-lowest .result)
+taken c = taken-by (picked (c .before .before .before .before .before .before .m .given .1) (c .before .before .before .before .before .before .before .before .lowest .ensures)) (c .but-lowest .ensures)
 
 loop-less : tie.Need-loop-less Inv-loop μ-loop
 loop-less c = taken-less (taken c)
@@ -79,6 +79,6 @@ nearest-spec =
     with-requires
     within-requires
     with-requires-2
-    without-requires
+    but-lowest-requires
     loop-less
     loop-again)

@@ -1,7 +1,7 @@
 use borrow.Author.Needs.{needs}
 use mathlib.Core.Logic.{⊎-elim}
 use lib.Count.{ones}
-use Rattle.sets.proofs.Members.{Taken, picked, nobody, taken-less}
+use Rattle.sets.proofs.Members.{Taken, taken-by, picked, nobody, taken-less}
 use Rattle.hierarchy.specs.Tables.{row}
 use Rattle.hierarchy.specs.Views.{ScopeBy}
 use Rattle.hierarchy.proofs.Sift.{Sifted, sift-start, sift-in, sift-out, sift-end}
@@ -42,11 +42,11 @@ in-scope-requires c κs = (c .before .before .before .before .before .before .pr
 with-requires : tie.Need-with-requires Inv-loop μ-loop
 with-requires c κs = search needs
 
-without-requires : tie.Need-without-requires Inv-loop μ-loop
-without-requires c κs = search needs
+but-lowest-requires : tie.Need-but-lowest-requires Inv-loop μ-loop
+but-lowest-requires c κs = search needs
 
-taken : (c : tie.After-without Inv-loop μ-loop) → Taken (c .before .before .before .before .before .before .before .loop .rest) (c .before .before .before .before .r .given .0 .0) (c .without .result)
-taken c = record { lowest = picked (c .before .before .before .before .r .given .1) (c .before .before .before .before .before .before .lowest .ensures); rest-is = c .without .ensures }
+taken : (c : tie.After-but-lowest Inv-loop μ-loop) → Taken (c .before .before .before .before .before .before .before .loop .rest) (c .before .before .before .before .r .given .0 .0) (c .but-lowest .result)
+taken c = taken-by (picked (c .before .before .before .before .r .given .1) (c .before .before .before .before .before .before .lowest .ensures)) (c .but-lowest .ensures)
 
 loop-less : tie.Need-loop-less Inv-loop μ-loop
 loop-less c = taken-less (taken c)
@@ -72,6 +72,6 @@ scope-of-spec =
     returns
     in-scope-requires
     with-requires
-    without-requires
+    but-lowest-requires
     loop-less
     loop-again)

@@ -1,7 +1,7 @@
 use borrow.Author.Needs.{needs}
 use native.Mathlib.Omega.{arith}
 use lib.Count.{ones}
-use Rattle.sets.proofs.Members.{Taken, picked, nobody, taken-less}
+use Rattle.sets.proofs.Members.{Taken, taken-by, picked, nobody, taken-less}
 use Rattle.hierarchy.proofs.Rows.{Marking, marking-start, marking-turn, marking-end}
 use Rattle.hierarchy.proofs.views.mark.Statement.{statement}
 use Rattle.hierarchy.proofs.views.mark.Tie as tie
@@ -42,11 +42,11 @@ mul-up c = let l = picked (c .before .before .before .y .given .1) (c .before .b
 element-write-up : tie.Need-element-write-up Inv-loop μ-loop
 element-write-up c = let l = picked (c .before .before .before .y .given .1) (c .before .before .before .before .before .lowest .ensures) in omega arith
 
-without-requires : tie.Need-without-requires Inv-loop μ-loop
-without-requires c κs = search needs
+but-lowest-requires : tie.Need-but-lowest-requires Inv-loop μ-loop
+but-lowest-requires c κs = search needs
 
-taken : (c : tie.After-without Inv-loop μ-loop) → Taken (c .before .before .before .before .before .before .before .loop .rest) (c .before .before .before .before .y .given .0 .0) (c .without .result)
-taken c = record { lowest = picked (c .before .before .before .before .y .given .1) (c .before .before .before .before .before .before .lowest .ensures); rest-is = c .without .ensures }
+taken : (c : tie.After-but-lowest Inv-loop μ-loop) → Taken (c .before .before .before .before .before .before .before .loop .rest) (c .before .before .before .before .y .given .0 .0) (c .but-lowest .result)
+taken c = taken-by (picked (c .before .before .before .before .y .given .1) (c .before .before .before .before .before .before .lowest .ensures)) (c .but-lowest .ensures)
 
 loop-less : tie.Need-loop-less Inv-loop μ-loop
 loop-less c = taken-less (taken c)
@@ -70,6 +70,6 @@ mark-spec =
     with-requires
     mul-up
     element-write-up
-    without-requires
+    but-lowest-requires
     loop-less
     loop-again)

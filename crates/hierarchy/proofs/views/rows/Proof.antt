@@ -1,7 +1,7 @@
 use borrow.Author.Needs.{needs}
 use native.Mathlib.Omega.{arith}
 use lib.Count.{ones}
-use Rattle.sets.proofs.Members.{Taken, picked, nobody, taken-less}
+use Rattle.sets.proofs.Members.{Taken, taken-by, picked, nobody, taken-less}
 use Rattle.hierarchy.proofs.Sweeps.{Gathered, gather-start, gather-turn, gather-end}
 use Rattle.hierarchy.proofs.views.rows.Statement.{statement}
 use Rattle.hierarchy.proofs.views.rows.Tie as tie
@@ -36,11 +36,11 @@ element-copy-out-union c = let l = picked (c .before .y .given .1) (c .before .b
 union-requires : tie.Need-union-requires Inv-loop μ-loop
 union-requires c κs = search needs
 
-without-requires : tie.Need-without-requires Inv-loop μ-loop
-without-requires c κs = search needs
+but-lowest-requires : tie.Need-but-lowest-requires Inv-loop μ-loop
+but-lowest-requires c κs = search needs
 
-taken : (c : tie.After-without Inv-loop μ-loop) → Taken (c .before .before .before .before .before .before .before .loop .rest) (c .before .before .before .before .y .given .0 .0) (c .without .result)
-taken c = record { lowest = picked (c .before .before .before .before .y .given .1) (c .before .before .before .before .before .before .lowest .ensures); rest-is = c .without .ensures }
+taken : (c : tie.After-but-lowest Inv-loop μ-loop) → Taken (c .before .before .before .before .before .before .before .loop .rest) (c .before .before .before .before .y .given .0 .0) (c .but-lowest .result)
+taken c = taken-by (picked (c .before .before .before .before .y .given .1) (c .before .before .before .before .before .before .lowest .ensures)) (c .but-lowest .ensures)
 
 loop-less : tie.Need-loop-less Inv-loop μ-loop
 loop-less c = taken-less (taken c)
@@ -62,6 +62,6 @@ rows-spec =
     mul-union
     element-copy-out-union
     union-requires
-    without-requires
+    but-lowest-requires
     loop-less
     loop-again)

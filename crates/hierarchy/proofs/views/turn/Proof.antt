@@ -4,7 +4,7 @@ use mathlib.Core.Path.{sym, subst}
 use mathlib.Core.List.{List}
 use native.Mathlib.Omega.{arith}
 use lib.Count.{ones}
-use Rattle.sets.proofs.Members.{Taken, picked, nobody, taken-less}
+use Rattle.sets.proofs.Members.{Taken, taken-by, picked, nobody, taken-less}
 use Rattle.hierarchy.proofs.Rows.{Turning, turning-start, turning-turn, turning-end}
 use Rattle.hierarchy.proofs.views.turn.Statement.{statement}
 use Rattle.hierarchy.proofs.views.turn.Tie as tie
@@ -42,11 +42,11 @@ element-copy-out-mark c = let l = picked (c .before .before .x .given .1) (c .be
 mark-requires : tie.Need-mark-requires Inv-loop μ-loop
 mark-requires c κs = (picked (c .before .before .before .x .given .1) (c .before .before .before .before .before .lowest .ensures) .role, c .before .before .before .before .before .before .loop .inv .rows)
 
-without-requires : tie.Need-without-requires Inv-loop μ-loop
-without-requires c κs = search needs
+but-lowest-requires : tie.Need-but-lowest-requires Inv-loop μ-loop
+but-lowest-requires c κs = search needs
 
-taken : (c : tie.After-without Inv-loop μ-loop) → Taken (c .before .before .before .before .before .before .before .before .loop .rest) (c .before .before .before .before .before .x .given .0 .0) (c .without .result)
-taken c = record { lowest = picked (c .before .before .before .before .before .x .given .1) (c .before .before .before .before .before .before .before .lowest .ensures); rest-is = c .without .ensures }
+taken : (c : tie.After-but-lowest Inv-loop μ-loop) → Taken (c .before .before .before .before .before .before .before .before .loop .rest) (c .before .before .before .before .before .x .given .0 .0) (c .but-lowest .result)
+taken c = taken-by (picked (c .before .before .before .before .before .x .given .1) (c .before .before .before .before .before .before .before .lowest .ensures)) (c .but-lowest .ensures)
 
 loop-less : tie.Need-loop-less Inv-loop μ-loop
 loop-less c = taken-less (taken c)
@@ -69,6 +69,6 @@ turn-spec =
     mul-mark
     element-copy-out-mark
     mark-requires
-    without-requires
+    but-lowest-requires
     loop-less
     loop-again)
