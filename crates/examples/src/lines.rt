@@ -200,7 +200,10 @@ pub(crate) fn change_edge(name: &[u8], b: Board, a: u8, senior: u8, junior: u8, 
 pub(crate) fn trouble(name: &[u8], b: Board, c: Command) {
     text(name);
     text(b": trouble: ");
-    number(checks::trouble(after(b, c)));
+    let next = after(b, c);
+    let mut down = [0u64; 64];
+    let mut up = [0u64; 64];
+    number(checks::trouble(next.live, &next.i, &next.a, &mut down, &mut up));
     text(b"\n");
 }
 
