@@ -1,14 +1,18 @@
 -- Each contract of `boardfile` allows one answer: two outcomes that it allows on the same input coincide. Assumes nothing.
-use mathlib.Core.Path.{_≡_, sym, ap, _∙_}
+use mathlib.Core.Path.{_≡_, sym, ap, _∙_, subst}
 use mathlib.Core.Logic.{_≢_, dite}
 use mathlib.Core.List.{List}
 use Prim.Native.Nat.{ℕ, _+_}
 use native.Mathlib.Decide.{ℕ-discrete}
 use Rattle.hierarchy.specs.First.{First}
+use Rattle.hierarchy.specs.Tables.{IsTable}
+use Rattle.hierarchy.specs.Views.{AreViews}
 use Rattle.hierarchy.proofs.FirstLaws.{first-unique}
+use Rattle.hierarchy.proofs.ViewLaws.{views-unique}
+use Rattle.board.specs.Boards.{tablesOf, boardOf}
 use Rattle.board.specs.declared.Board.{Board}
 use Rattle.boardfile.specs.Files.{stretchOf, startOf}
-use Rattle.boardfile.specs.Answers.{refusals, ReadAnswer, stretchRefusals, StretchAnswer, BoundsAnswer, Placed, Unplaced, putRefusals, PutAnswer, writeRefusals, WriteAnswer}
+use Rattle.boardfile.specs.Answers.{refusals, ReadAnswer, OpenAnswer, stretchRefusals, StretchAnswer, BoundsAnswer, Placed, Unplaced, putRefusals, PutAnswer, writeRefusals, WriteAnswer}
 use Rattle.boardfile.proofs.OneFile.{one-board}
 
 -- by whether the common number is 0
@@ -24,6 +28,14 @@ read-unique {f} {m} {n} r s =
           (λ z. one-board (r .done z .0) (s .done (sym e ∙ z) .0))
           (λ z. r .refused z ∙ sym (s .refused (λ w. z (e ∙ w)))),
     )
+
+-- open: the number, the board in parts, and its views
+pub open-unique : {f : List ℕ} {m n l l′ : ℕ} {i a down up i′ a′ down′ up′ : List ℕ} → IsTable down → IsTable up → IsTable down′ → IsTable up′
+    → OpenAnswer f m l i a down up → OpenAnswer f n l′ i′ a′ down′ up′ → (m ≡ n) × (boardOf l i a ≡ boardOf l′ i′ a′) × (down ≡ down′) × (up ≡ up′)
+open-unique {down′ = down′} {up′ = up′} d u d′ u′ r s =
+    let e = read-unique (r .reading) (s .reading) in
+    let v = views-unique d u d′ u′ (r .seen .views) (subst (λ (b : Board). AreViews (tablesOf b) down′ up′) (sym (e .1)) (s .seen .views)) in
+    (e .0, e .1, v .0, v .1)
 
 -- put and write: the number, the length and the whole buffer
 outcome : (b : Board) (entry : List ℕ) (at m n : ℕ) {j k : ℕ} {x y : List ℕ} → m ≡ n

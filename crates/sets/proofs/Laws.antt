@@ -1,9 +1,10 @@
 -- The laws of sets of roles: what callers cite. Assumes nothing.
 use mathlib.Core.Path.{_≡_, refl, sym, ap, _∙_, subst}
 use mathlib.Core.Bool.{Bool, true, false, not, _&&_, and-true, and-false}
-use mathlib.Core.Logic.{_⊎_, ⊎-elim, _↔_}
+use mathlib.Core.Logic.{_⊎_, ⊎-elim, _↔_, dite}
 use Prim.Native.Nat.{ℕ, zero, suc, _-_, _*_, _/_, _%_, _^_, _≤_, _<_, zero-le, suc-le-suc}
 use native.Mathlib.Nat.{mod-lt, mod-eq-of-lt, one-mul, le-refl, le-antisymm, le-of-suc-le-suc, pow-suc, mul-comm, div-lt-iff-lt-mul, le-div-iff-mul-le}
+use native.Mathlib.Decide.{ℕ-discrete}
 use native.Mathlib.Omega.{arith}
 use lib.Dec.{eqb, eqb·suc-zero, eqb·suc-suc, ltb, lit<}
 use lib.Arith.{bin-ind}
@@ -241,8 +242,8 @@ but-lowest-none s z = record {
   none = λ _. record { none = bit-zero };
 }
 
-pub but-lowest-is : (s : ℕ) → s < 2 ^ 64 → ButLowest s (bitAnd s (s - 1))
-but-lowest-is s f = record {
+pub but-lowest-is : (s : ℕ) → ButLowest s (bitAnd s (s - 1))
+but-lowest-is s = record {
   rest = λ r l x. bit-and s (s - 1) x ∙ go r l x (bit s x) refl;
   none = λ n. record { none = λ x. bit-and s (s - 1) x ∙ ap (λ (p : Bool). p && bit (s - 1) x) (n .none x) };
 }
@@ -250,3 +251,11 @@ but-lowest-is s f = record {
     go : (r : ℕ) → LowestRole s r → (x : ℕ) (p : Bool) → bit s x ≡ p → (bit s x && bit (s - 1) x) ≡ (bit s x && not (same? r x))
     go r l x true e = ap (λ (q : Bool). bit s x && q) (less-one r s x (l .member) (λ y k. not-so (bit s y) (λ m. absurd (omega (arith, l .least y m)))) e ∙ ap not (sym (same-is r x (l .role))))
     go r l x false e = ap (λ (q : Bool). q && bit (s - 1) x) e ∙ sym (ap (λ (q : Bool). q && not (same? r x)) e)
+
+pub but-lowest-unique : (s t u : ℕ) → s < 2 ^ 64 → t < 2 ^ 64 → u < 2 ^ 64 → ButLowest s t → ButLowest s u → t ≡ u
+but-lowest-unique s t u fs ft fu b c = dite (ℕ-discrete s 0)
+    (λ z. let n : NoRole s = record { none = λ x. ap (λ (k : ℕ). bit k x) z ∙ bit-zero x } in ext 64 t u ft fu (λ x _. b .none n .none x ∙ sym (c .none n .none x)))
+    (λ z.
+    let p : 0 < s = omega arith in
+    let l : LowestRole s (trailingZeros 64 s) = record { role = lowest-lt s p fs; member = bit-lowest 64 s p fs; least = λ x e. lowest-least 64 s x e } in
+    ext 64 t u ft fu (λ x _. b .rest (trailingZeros 64 s) l x ∙ sym (c .rest (trailingZeros 64 s) l x)))

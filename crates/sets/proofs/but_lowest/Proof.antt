@@ -10,7 +10,7 @@ sub-result : tie.Need-sub-result
 sub-result c = search needs
 
 returns-2 : tie.Need-returns-2
-returns-2 c = but-lowest-is (c .before .args .s) (c .before .fits .s .fits)
+returns-2 c = but-lowest-is (c .before .args .s)
 
 pub but-lowest-spec : {M : Type 1} → statement M
 but-lowest-spec = tie.close (tie.spec returns sub-result returns-2)
