@@ -86,6 +86,18 @@ int main(int argc, char **argv)
         }
         for (int deed = 0; deed < DEEDS; deed++) row(deed_name[deed], deed, &s);
     }
+    heading("Numbered another way");
+    for (int board = 0; board < 3; board++) {
+        switch (board) {
+        case 0: renumbered(&s, 0, 61, "upwards"); break;
+        case 1: renumbered(&s, 1, 37, "mixed"); break;
+        default: renumbered(&s, 0, 37, "mixed");
+        }
+        row(deed_name[DONE], DONE, &s);
+        row(deed_name[REFUSED_7], REFUSED_7, &s);
+        row(deed_name[CHECK], CHECK, &s);
+        row(deed_name[STEPS], STEPS, &s);
+    }
     heading("With more roles");
     for (size_t k = 0; k < sizeof roles / sizeof roles[0]; k++) {
         chain(&s, roles[k]);

@@ -63,6 +63,17 @@ void chain(struct sample *s, unsigned roles)
     finish(s, roles - 1);
 }
 
+static unsigned at_place(unsigned place, unsigned stride) { return place < 2 ? place : 2 + (place - 2) * stride % 62; }
+
+void renumbered(struct sample *s, int is_tree, unsigned stride, const char *how)
+{
+    begin(s);
+    sprintf(s->name, "%s of 64, %s", is_tree ? "tree" : "chain", how);
+    for (unsigned k = 1; k < 64; k++)
+        edge(&s->board, at_place(is_tree ? (k - 1) / 2 : k - 1, stride), at_place(k, stride), 3);
+    finish(s, at_place(63, stride));
+}
+
 void dense(struct sample *s, unsigned roles, unsigned edges)
 {
     unsigned put = 0;

@@ -15,6 +15,8 @@ struct sample {
 void founding(struct sample *s);
 void tree(struct sample *s, unsigned roles);
 void chain(struct sample *s, unsigned roles);
+/* A chain, or a tree, of 64 with its roles in another order: behind 0 and 1 the others follow in steps of `stride` among themselves. */
+void renumbered(struct sample *s, int is_tree, unsigned stride, const char *how);
 void dense(struct sample *s, unsigned roles, unsigned edges); /* a chain of IA edges, then ever longer ones */
 
 /* What is measured. A done command is given with one that undoes it, so that both can be repeated. */

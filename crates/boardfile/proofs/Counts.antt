@@ -78,5 +78,5 @@ count-turn {t} {n} {x} c l m e = record { count = more; within = omega arith }
         ∙ sym (length-append (from (x * 64) 0 (edge? (kindAt t))) (from 64 (0 + x * 64) (edge? (kindAt t))))
         ∙ ap length (sym (from-split (x * 64) 64 0 (edge? (kindAt t))) ∙ ap (λ (k : ℕ). from k 0 (edge? (kindAt t))) (sym w))
 
-pub count-end : {t : Tables} {n x : ℕ} → Counted t n x → 64 ≤ x → n ≡ length (from 4096 0 (edge? (kindAt t)))
-count-end {t} {n} {x} c l = let w : x * 64 ≡ 4096 = omega (arith, c .within) in c .count ∙ ap (λ (k : ℕ). length (from k 0 (edge? (kindAt t)))) w
+pub count-end : {t : Tables} {n x : ℕ} (senior : ℕ) → Counted t n x → x ≡ senior → n ≡ length (from (senior * 64) 0 (edge? (kindAt t)))
+count-end {t} senior c e = c .count ∙ ap (λ (k : ℕ). length (from (k * 64) 0 (edge? (kindAt t)))) e

@@ -23,8 +23,8 @@ use reader::edges;
 use reader::listed;
 use sets::has;
 use sets::size;
-use writer::count_edges;
 pub use writer::edge_count;
+pub use writer::edges_below;
 use writer::put_file;
 
 pub struct Reading {
@@ -126,7 +126,7 @@ pub fn put(b: Board, out: &mut [u8], at: usize) -> Written
     ensures { λ r. ⌜ PutAnswer b (now (out .entry)) at (now (out .exit)) (r .number) (r .len) ⌝ }
 {
     let roles = size(b.live) as usize;
-    let edges = 3 * count_edges(&b.i, &b.a);
+    let edges = 3 * edges_below(&b.i, &b.a, 64);
     let len = roles + edges + TRAILER;
     if out.len() < at || out.len() - at < len {
         return Written { number: 12, len: 0 };

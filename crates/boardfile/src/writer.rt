@@ -1,6 +1,6 @@
 // The parts of a board file, each put at the start of the bytes that are lent for it; what lies behind the part stays.
 ghost use mathlib.Core.Path.{_≡_};
-ghost use Prim.Native.Nat.{_≤_, _<_};
+ghost use Prim.Native.Nat.{_*_, _≤_, _<_};
 ghost use lib.ListN.{length};
 ghost use Rattle.sets.specs.Sets.{bit};
 ghost use Rattle.hierarchy.specs.Tables.{kindOf};
@@ -16,13 +16,16 @@ use sets::lowest;
 use sets::size;
 use sets::union;
 
-// How many edges the two tables have.
-pub(crate) fn count_edges<'t>(i: &'t [u64; 64], a: &'t [u64; 64]) -> usize
-    ensures { λ r. ⌜ r ≡ length (from 4096 0 (edge? (kindsIn (now (i .entry)) (now (a .entry))))) ⌝ }
+// How many edges have a senior below this one; 0 for a number above 64.
+pub fn edges_below<'t>(i: &'t [u64; 64], a: &'t [u64; 64], senior: usize) -> usize
+    ensures { λ r. ⌜ (senior ≤ 64 → r ≡ length (from (senior * 64) 0 (edge? (kindsIn (now (i .entry)) (now (a .entry)))))) × (64 < senior → r ≡ 0) ⌝ }
 {
+    if 64 < senior {
+        return 0;
+    }
     let mut n: usize = 0;
     let mut x: usize = 0;
-    while x < 64 {
+    while x < senior {
         n += size(union(i[x], a[x])) as usize;
         x += 1;
     }
@@ -33,7 +36,7 @@ pub(crate) fn count_edges<'t>(i: &'t [u64; 64], a: &'t [u64; 64]) -> usize
 pub fn edge_count(b: Board) -> usize
     ensures { λ r. ⌜ r ≡ length (from 4096 0 (edge? (kindAt (tablesOf b)))) ⌝ }
 {
-    count_edges(&b.i, &b.a)
+    edges_below(&b.i, &b.a, 64)
 }
 
 // The bytes of the live roles.

@@ -8,7 +8,9 @@ use native.Mathlib.Decide.{ℕ-discrete}
 use lib.Count.{ones}
 use lib.ListN.{length, set, length-set, replicate}
 use borrow.Author.Tests.{eq-eqb}
-use Rattle.sets.specs.Sets.{bit, _∈_, _⊆_, same?, setOf, NoRole}
+use Rattle.sets.specs.Sets.{bit, _∈_, _⊆_, same?, setOf, NoRole, Lowest, Highest}
+use Rattle.sets.specs.declared.Pick.{Pick}
+use Rattle.sets.specs.declared.Pick.the-variants.{Role, Nobody}
 use Rattle.sets.proofs.Bools.{true-or-false, or-cases, or-left, or-right, and-left, and-right, and-both, false-no, not-so, iff-same, lt-or-ge}
 use Rattle.sets.proofs.Digits.{bit-zero}
 use Rattle.sets.proofs.Laws.{ext, bit-lt, same-eq, same-self, part-whole, minus-part, setOf-fits, in-setOf}
@@ -16,7 +18,7 @@ use Rattle.sets.proofs.Members.{Drawn, drawn-kept, Taken, taken-part, taken-kep
 use Rattle.hierarchy.specs.Tables.{Tables, tables, row, kind}
 use Rattle.hierarchy.specs.Words.{Derives, Way, Way.edge, Way.then, Reaches, Chain, Chain.stop, Chain.step}
 use Rattle.hierarchy.specs.Views.{Led, InOrder, InOrderViews}
-use Rattle.hierarchy.specs.Engine.{Entry, InRows, Spread, ByI, Settled, RightRows, Right, Waits, Swept, Ordered, IsDown, IsUp}
+use Rattle.hierarchy.specs.Engine.{Entry, IsOf, OneOf, InRows, Spread, ByI, Settled, RightRows, Right, Waits, Swept, Ordered, IsDown, IsUp}
 use Rattle.hierarchy.proofs.Derive.{edge-entry, derives↔descends}
 use Rattle.hierarchy.proofs.Rows.{row-set, blank-row, Filled, filled-start, views-are}
 use Rattle.hierarchy.proofs.Managing.{a-member, no-iff}
@@ -133,6 +135,20 @@ chain-in done f m stop = m
 chain-in done f {x} m (step {y = y} e c) = chain-in done f (f x y m e) c
 
 -- ---- one sweep
+
+pub one-of-highest : (s : ℕ) (p : Pick) → Highest s p → OneOf s p
+one-of-highest s (Role r) h = record { role = h .role; member = h .member }
+one-of-highest s Nobody h = h
+
+pub one-of-lowest : (s : ℕ) (p : Pick) → Lowest s p → OneOf s p
+one-of-lowest s (Role r) l = record { role = l .role; member = l .member }
+one-of-lowest s Nobody l = l
+
+pub one-role : {s r : ℕ} {p : Pick} → p ≡ Role r → OneOf s p → IsOf s r
+one-role {s} e o = subst (OneOf s) e o
+
+pub no-one : {s : ℕ} {p : Pick} → p ≡ Nobody → OneOf s p → NoRole s
+no-one {s} e o = subst (OneOf s) e o
 
 pub record Sweeping (i a : List ℕ) (done left : ℕ) (by-i down : List ℕ) (now-done rest : ℕ) : Type 0 where
   pub right : Right i a by-i down now-done

@@ -3,9 +3,11 @@ use mathlib.Core.Path.{_≡_}
 use mathlib.Core.Logic.{_⊎_, _↔_}
 use mathlib.Core.Bool.{false, _&&_, _||_}
 use mathlib.Core.List.{List}
-use Prim.Native.Nat.{ℕ}
+use Prim.Native.Nat.{ℕ, _<_}
 use lib.ListN.{length}
-use Rattle.sets.specs.Sets.{bit, _∈_, _⊆_, same?}
+use Rattle.sets.specs.Sets.{bit, _∈_, _⊆_, same?, NoRole}
+use Rattle.sets.specs.declared.Pick.{Pick}
+use Rattle.sets.specs.declared.Pick.the-variants.{Role, Nobody}
 use Rattle.hierarchy.specs.Tables.{Tables, tables, row}
 use Rattle.hierarchy.specs.Words.{Derives, Reaches, Chain}
 
@@ -51,6 +53,15 @@ pub record Right (i a by-i down : List ℕ) (done : ℕ) : Type 0 where
   pub a-rows : RightRows a (ByI i) down done
   pub closed : (x y : ℕ) → x ∈ done → Entry i a x y → y ∈ done
   pub loopless : (live x : ℕ) → x ∈ done → Reaches (tables live i a) x x → ⊥
+
+-- one role of s, whichever
+pub record IsOf (s r : ℕ) : Type 0 where
+  pub role : r < 64
+  pub member : r ∈ s
+
+abbrev pub OneOf : ℕ → Pick → Type 0
+OneOf s (Role r) = IsOf s r
+OneOf s Nobody = NoRole s
 
 -- x has a junior that isn't done
 abbrev pub Waits : List ℕ → List ℕ → ℕ → ℕ → Type 0

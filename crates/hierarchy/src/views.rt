@@ -6,7 +6,7 @@ ghost use lib.ListN.{length, replicate};
 ghost use Rattle.sets.specs.Sets.{_∈_};
 ghost use Rattle.hierarchy.specs.Tables.{tables};
 ghost use Rattle.hierarchy.specs.Views.{Led, AreViews, InOrderViews};
-ghost use Rattle.hierarchy.specs.Engine.{InRows, Settled, Right, Swept, Ordered, IsDown, IsUp, Marked};
+ghost use Rattle.hierarchy.specs.Engine.{InRows, OneOf, Settled, Right, Swept, Ordered, IsDown, IsUp, Marked};
 use sets::Pick;
 use sets::but_lowest;
 use sets::common;
@@ -67,8 +67,18 @@ fn settle(table: &[u64; 64], reach: &mut [u64; 64], x: usize, own: u64) -> u64
     row
 }
 
-// One sweep over the roles that are left, from the highest down, since juniors mostly have the higher numbers: a role whose
-// juniors are all done is settled, first by I alone, then by A and from there by I.
+// The highest role of s, or the lowest.
+fn end_of(s: u64, top: bool) -> Pick
+    ensures { λ r. ⌜ OneOf s r ⌝ }
+{
+    if top {
+        return highest(s);
+    }
+    lowest(s)
+}
+
+// One sweep over the roles that are left, from the top down or from the bottom up: a role whose juniors are all done is settled, first
+// by I alone, then by A and from there by I.
 fn sweep<'t>(
     i: &'t [u64; 64],
     a: &'t [u64; 64],
@@ -76,6 +86,7 @@ fn sweep<'t>(
     down: &mut [u64; 64],
     done: u64,
     left: u64,
+    top: bool,
 ) -> u64
     requires { ⌜ Right (now i) (now a) (now «by_i») (now down) done ⌝ }
     ensures { λ r. ⌜ Swept (now (i .entry)) (now (a .entry)) done left (now («by_i» .exit)) (now (down .exit)) r ⌝ }
@@ -83,7 +94,7 @@ fn sweep<'t>(
     let mut now_done = done;
     let mut rest = left;
     loop {
-        let Pick::Role(x) = highest(rest) else {
+        let Pick::Role(x) = end_of(rest, top) else {
             return now_done;
         };
         rest = without(rest, x);
@@ -95,7 +106,8 @@ fn sweep<'t>(
     }
 }
 
-// Sweeps until nothing more is done; gives the roles that are.
+// Sweeps until nothing more is done; gives the roles that are. The first goes from the highest role down, since juniors mostly have the
+// higher numbers, the next back up, and so on: a board numbered either way takes few of them.
 fn order<'t>(
     live: u64,
     i: &'t [u64; 64],
@@ -108,14 +120,16 @@ fn order<'t>(
 {
     let mut done: u64 = 0;
     let mut left = live;
+    let mut top = true;
     loop {
-        let more = sweep(i, a, by_i, down, done, left);
+        let more = sweep(i, a, by_i, down, done, left, top);
         let rest = minus(left, more);
         if rest == left {
             return more;
         }
         done = more;
         left = rest;
+        top = !top;
     }
 }
 

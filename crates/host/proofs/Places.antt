@@ -12,25 +12,26 @@ use lib.ListN.{length, take, drop}
 use borrow.Author.Tests.{eq-eqb, ne-eqb}
 use Rattle.sets.specs.Sets.{bit}
 use Rattle.sets.proofs.Bools.{false-no, lt-or-ge, cond-elim}
-use Rattle.hierarchy.specs.Tables.{Live}
+use Rattle.hierarchy.specs.Tables.{tables, Live, kind}
 use Rattle.hierarchy.specs.First.{First}
 use Rattle.hierarchy.proofs.FirstLaws.{hit, pass, none}
-use Rattle.board.specs.Boards.{tablesOf}
+use Rattle.board.specs.Boards.{tablesOf, boardOf}
 use Rattle.board.specs.declared.Board.{Board}
 use Rattle.boardfile.specs.Files.{from, edge?, edgeBytes, kindAt, fileOf, stretchOf, startOf}
+use Rattle.boardfile.specs.Parts.{kindsIn}
 use Rattle.boardfile.proofs.Ascending.{from-short}
 use Rattle.boardfile.proofs.Bytes.{records-length, edge-few}
-use Rattle.boardfile.proofs.Counts.{ones-from, Counted}
+use Rattle.boardfile.proofs.Counts.{ones-from}
 use Rattle.boardfile.proofs.Stretches.{up-to-it, stretch-is}
 use Rattle.host.specs.Answers.{startOrNone, PlaceAnswer}
 
--- a count of the edges below a senior says where its records start
-pub count-at : (b : Board) (n x s size : ℕ) → Counted (tablesOf b) n x → x ≡ s → b .live < 2 ^ 64 → size ≡ ones (b .live) → size + 3 * n ≡ startOf b s
-unfolding startOf edgeBytes
-count-at b n x s size c e fits is =
-    let kinds = kindAt (tablesOf b) in
-    ap₂ _+_ (is ∙ sym (ones-from 64 (b .live) fits))
-    (ap (λ (k : ℕ). 3 * k) (c .count ∙ ap (λ (k : ℕ). length (from (k * 64) 0 (edge? kinds))) e) ∙ sym (records-length kinds (from (s * 64) 0 (edge? kinds))))
+-- a count of the edges below a senior says where its records start; the kinds are a matter of the tables, whoever lives
+pub count-at : (live : ℕ) (i a : List ℕ) (n s size : ℕ) → n ≡ length (from (s * 64) 0 (edge? (kindsIn i a))) → live < 2 ^ 64 → size ≡ ones live
+    → size + 3 * n ≡ startOf (boardOf live i a) s
+unfolding startOf edgeBytes kindAt kind
+count-at live i a n s size count fits is =
+    let kinds = kindAt (tables live i a) in
+    ap₂ _+_ (is ∙ sym (ones-from 64 live fits)) (ap (λ (k : ℕ). 3 * k) count ∙ sym (records-length kinds (from (s * 64) 0 (edge? kinds))))
 
 module _ (b : Board) (role : ℕ) where
   pub starts-low : role ≤ 64 → startOf b role ≤ 12352

@@ -4,9 +4,9 @@ ghost use Prim.Native.Nat.{_≤_};
 ghost use Rattle.board.specs.Boards.{boardOf};
 ghost use Rattle.boardfile.specs.Files.{startOf};
 ghost use Rattle.host.specs.Answers.{PlaceAnswer};
+use boardfile::edges_below;
 use sets::has;
 use sets::size;
-use sets::union;
 
 pub(crate) struct Part {
     pub number: u8,
@@ -19,13 +19,7 @@ fn start_of<'t>(live: u64, i: &'t [u64; 64], a: &'t [u64; 64], senior: usize) ->
     requires { ⌜ senior ≤ 64 ⌝ }
     ensures { λ r. ⌜ r ≡ startOf (boardOf live (now (i .entry)) (now (a .entry))) senior ⌝ }
 {
-    let mut n: usize = 0;
-    let mut x: usize = 0;
-    while x < senior {
-        n += size(union(i[x], a[x])) as usize;
-        x += 1;
-    }
-    size(live) as usize + 3 * n
+    size(live) as usize + 3 * edges_below(i, a, senior)
 }
 
 // The place of the records of this senior.

@@ -16,20 +16,20 @@ use Rattle.boardfile.proofs.put.Statement.{statement}
 use Rattle.boardfile.proofs.put.Tie as tie
 
 -- kinds are a matter of the tables, whoever lives
-edges-are : (c : tie.After-count-edges) → c .count-edges .result ≡ length (from 4096 0 (edge? (kindAt (tablesOf (c .before .before .before .before .before .before .args .t1)))))
+edges-are : (c : tie.After-edges-below) → c .edges-below .result ≡ length (from 4096 0 (edge? (kindAt (tablesOf (c .before .before .before .before .before .before .args .t1)))))
 unfolding kindAt kind
-edges-are c = c .count-edges .ensures
+edges-are c = c .edges-below .ensures .0 (omega arith)
 
-live-fits : (c : tie.After-count-edges) → c .before .before .before .before .before .before .args .t1 .live < 2 ^ 64
+live-fits : (c : tie.After-edges-below) → c .before .before .before .before .before .before .args .t1 .live < 2 ^ 64
 live-fits c = omega (arith, fits)
   where
     fits : Fits w64 (c .before .before .before .before .before .before .args .t1 .live)
     fits = search needs
 
-few : (c : tie.After-count-edges) → (c .before .before .before .before .size .result ≤ 64) × (c .count-edges .result ≤ 4096)
+few : (c : tie.After-edges-below) → (c .before .before .before .before .size .result ≤ 64) × (c .edges-below .result ≤ 4096)
 few c = sizes-few (c .before .before .before .before .before .before .args .t1) (live-fits c) (c .before .before .before .before .size .ensures) (edges-are c)
 
-long : (c : tie.After-count-edges) → c .before .before .before .before .size .result + 3 * c .count-edges .result + 6 ≡ length (fileOf (c .before .before .before .before .before .before .args .t1))
+long : (c : tie.After-edges-below) → c .before .before .before .before .size .result + 3 * c .edges-below .result + 6 ≡ length (fileOf (c .before .before .before .before .before .before .args .t1))
 long c = file-long (c .before .before .before .before .before .before .args .t1) (live-fits c) (c .before .before .before .before .size .ensures) (edges-are c)
 
 size-requires : tie.Need-size-requires
@@ -38,8 +38,8 @@ size-requires c κs = search needs
 cast-roles : tie.Need-cast-roles
 cast-roles c = search needs
 
-count-edges-requires : tie.Need-count-edges-requires
-count-edges-requires c κs = search needs
+edges-below-requires : tie.Need-edges-below-requires
+edges-below-requires c κs = search needs
 
 mul-edges : tie.Need-mul-edges
 mul-edges c = let h = few c in omega arith
@@ -92,7 +92,7 @@ put-spec =
     (tie.spec
     size-requires
     cast-roles
-    count-edges-requires
+    edges-below-requires
     mul-edges
     add-len
     add-len-2

@@ -1,15 +1,16 @@
 use Rattle.hierarchy.specs.Tables.{kind}
 use Rattle.boardfile.specs.Files.{kindAt}
+use native.Mathlib.Omega.{arith}
 use borrow.Author.Needs.{needs}
 use Rattle.boardfile.proofs.writer.edge_count.Statement.{statement}
 use Rattle.boardfile.proofs.writer.edge_count.Tie as tie
 
-count-edges-requires : tie.Need-count-edges-requires
-count-edges-requires c κs = search needs
+edges-below-requires : tie.Need-edges-below-requires
+edges-below-requires c κs = search needs
 
 returns : tie.Need-returns
 unfolding kindAt kind
-returns c = c .count-edges .ensures
+returns c = c .edges-below .ensures .0 (omega arith)
 
 pub edge-count-spec : {M : Type 1} → statement M
-edge-count-spec = tie.close (tie.spec count-edges-requires returns)
+edge-count-spec = tie.close (tie.spec edges-below-requires returns)

@@ -6,10 +6,10 @@ use Rattle.hierarchy.proofs.views.order.Statement.{statement}
 use Rattle.hierarchy.proofs.views.order.Tie as tie
 
 abbrev Inv-loop : tie.InvT-loop
-Inv-loop live i a by-i₀ down₀ done₀ left₀ by-i down done left = Ordering live i a by-i down done left
+Inv-loop live i a by-i₀ down₀ done₀ left₀ top₀ by-i down done left top = Ordering live i a by-i down done left
 
 abbrev μ-loop : tie.MeasureT-loop
-μ-loop live i a by-i₀ down₀ done₀ left₀ by-i down done left = ones left
+μ-loop live i a by-i₀ down₀ done₀ left₀ top₀ by-i down done left top = ones left
 
 loop-holds : tie.Need-loop-holds Inv-loop μ-loop
 loop-holds c = order-start (c .fits .live .fits) (c .pre)

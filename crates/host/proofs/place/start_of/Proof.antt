@@ -1,95 +1,35 @@
-use borrow.Author.Needs.{needs}
-use mathlib.Core.Path.{sym, _∙_}
-use Prim.Native.Nat.{_≤_, _-_}
+use Prim.Native.Nat.{_*_, _≤_}
 use native.Mathlib.Omega.{arith}
-use Rattle.board.specs.Boards.{boardOf}
-use Rattle.hierarchy.specs.Tables.{tables}
-use Rattle.boardfile.proofs.Counts.{Counted, count-start, count-few, count-turn, row-count}
+use Rattle.boardfile.specs.Files.{edge?}
+use Rattle.boardfile.specs.Parts.{kindsIn}
+use Rattle.boardfile.proofs.Ascending.{from-short}
 use Rattle.host.proofs.Places.{count-at}
+use borrow.Author.Needs.{needs}
 use Rattle.host.proofs.place.start_of.Statement.{statement}
 use Rattle.host.proofs.place.start_of.Tie as tie
 
-abbrev Inv-loop : tie.InvT-loop
-Inv-loop live i a senior n₀ x₀ n x = (x ≤ senior) × Counted (tables live i a) n x
-
-abbrev μ-loop : tie.MeasureT-loop
-μ-loop live i a senior n₀ x₀ n x = senior - x
-
-loop-holds : tie.Need-loop-holds Inv-loop μ-loop
-loop-holds c = (omega arith, count-start _)
-
-mul-union : tie.Need-mul-union Inv-loop μ-loop
-mul-union c = omega arith
-
-element-copy-out-union : tie.Need-element-copy-out-union Inv-loop μ-loop
-element-copy-out-union c = omega arith
-
-mul-union-2 : tie.Need-mul-union-2 Inv-loop μ-loop
-mul-union-2 c = omega arith
-
-element-copy-out-union-2 : tie.Need-element-copy-out-union-2 Inv-loop μ-loop
-element-copy-out-union-2 c = omega arith
-
-union-requires : tie.Need-union-requires Inv-loop μ-loop
-union-requires c κs = search needs
-
-size-requires : tie.Need-size-requires Inv-loop μ-loop
+size-requires : tie.Need-size-requires
 size-requires c κs = search needs
 
-cast-n : tie.Need-cast-n Inv-loop μ-loop
-cast-n c = omega (arith, c .size .ok)
+cast-result : tie.Need-cast-result
+cast-result c = search needs
 
-add-n : tie.Need-add-n Inv-loop μ-loop
-add-n c = let h = count-few (c .before .before .before .before .before .loop .inv .1) in omega (arith, c .size .ok)
+edges-below-requires : tie.Need-edges-below-requires
+edges-below-requires c κs = search needs
 
-add-x : tie.Need-add-x Inv-loop μ-loop
-add-x c = omega arith
+few : (c : tie.After-edges-below) → c .edges-below .result ≤ 4096
+few c = let s = c .before .before .args in omega (arith, c .edges-below .ensures .0 (c .before .before .pre), from-short (s .senior * 64) 0 (edge? (kindsIn (s .i .now) (s .a .now))), c .before .before .pre)
 
-loop-less : tie.Need-loop-less Inv-loop μ-loop
-loop-less c = omega arith
+mul-result : tie.Need-mul-result
+mul-result c = omega (arith, few c)
 
-loop-again : tie.Need-loop-again Inv-loop μ-loop
-loop-again c = (
-  omega arith,
-  count-turn (c .before .before .before .before .before .loop .inv .1) (omega arith) (c .size .result)
-      (row-count _ _ (c .before .union .result) (omega (arith, c .before .union .ok)) (c .before .union .ensures) ∙ sym (c .size .ensures)),
-)
+add-result : tie.Need-add-result
+add-result c = omega (arith, few c, c .before .size .ok)
 
-size-requires-2 : tie.Need-size-requires-2 Inv-loop μ-loop
-size-requires-2 c κs = search needs
-
-cast-result : tie.Need-cast-result Inv-loop μ-loop
-cast-result c = omega (arith, c .size2 .ok)
-
-mul-result : tie.Need-mul-result Inv-loop μ-loop
-mul-result c = let h = count-few (c .before .before .loop .inv .1) in omega arith
-
-add-result : tie.Need-add-result Inv-loop μ-loop
-add-result c = let h = count-few (c .before .before .loop .inv .1) in omega (arith, c .size2 .ok)
-
-returns : tie.Need-returns Inv-loop μ-loop
-returns c = count-at (boardOf (c .before .before .before .args .live) (c .before .before .before .args .i .now) (c .before .before .before .args .a .now)) (c .before .before .loop .n) (c .before .before .loop .x) (c .before .before .before .args .senior) (c .size2 .result) (c .before .before .loop .inv .1) (omega arith) (c .before .before .before .fits .live .fits) (c .size2 .ensures)
+returns : tie.Need-returns
+returns c = count-at _ _ _ (c .edges-below .result) (c .before .before .args .senior) (c .before .size .result) (c .edges-below .ensures .0 (c .before .before .pre)) (c .before .before .fits .live .fits) (c .before .size .ensures)
 
 pub start-of-spec : {M : Type 1} → statement M
 start-of-spec =
     tie.close
-    (tie.spec
-    Inv-loop
-    μ-loop
-    loop-holds
-    mul-union
-    element-copy-out-union
-    mul-union-2
-    element-copy-out-union-2
-    union-requires
-    size-requires
-    cast-n
-    add-n
-    add-x
-    loop-less
-    loop-again
-    size-requires-2
-    cast-result
-    mul-result
-    add-result
-    returns)
+    (tie.spec size-requires cast-result edges-below-requires mul-result add-result returns)

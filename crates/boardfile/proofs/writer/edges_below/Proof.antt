@@ -1,20 +1,23 @@
 use borrow.Author.Needs.{needs}
-use Prim.Native.Nat.{_-_}
+use mathlib.Core.Path.{refl, sym, _∙_}
+use Prim.Native.Nat.{_≤_, _-_}
 use native.Mathlib.Omega.{arith}
-use mathlib.Core.Path.{sym, _∙_}
 use Rattle.hierarchy.specs.Tables.{tables}
 use Rattle.boardfile.proofs.Counts.{Counted, count-start, count-few, count-turn, count-end, row-count}
-use Rattle.boardfile.proofs.writer.count_edges.Statement.{statement}
-use Rattle.boardfile.proofs.writer.count_edges.Tie as tie
+use Rattle.boardfile.proofs.writer.edges_below.Statement.{statement}
+use Rattle.boardfile.proofs.writer.edges_below.Tie as tie
 
 abbrev Inv-loop : tie.InvT-loop
-Inv-loop i a n₀ x₀ n x = Counted (tables 0 i a) n x
+Inv-loop i a senior n₀ x₀ n x = (x ≤ senior) × Counted (tables 0 i a) n x
 
 abbrev μ-loop : tie.MeasureT-loop
-μ-loop i a n₀ x₀ n x = 64 - x
+μ-loop i a senior n₀ x₀ n x = senior - x
+
+returns : tie.Need-returns Inv-loop μ-loop
+returns c = (λ l. omega arith, λ _. refl)
 
 loop-holds : tie.Need-loop-holds Inv-loop μ-loop
-loop-holds c = count-start _
+loop-holds c = (omega arith, count-start _)
 
 mul-union : tie.Need-mul-union Inv-loop μ-loop
 mul-union c = omega arith
@@ -38,7 +41,7 @@ cast-n : tie.Need-cast-n Inv-loop μ-loop
 cast-n c = omega (arith, c .size .ok)
 
 add-n : tie.Need-add-n Inv-loop μ-loop
-add-n c = let h = count-few (c .before .before .before .before .before .loop .inv) in omega (arith, c .size .ok)
+add-n c = let h = count-few (c .before .before .before .before .before .loop .inv .1) in omega (arith, c .size .ok)
 
 add-x : tie.Need-add-x Inv-loop μ-loop
 add-x c = omega arith
@@ -47,17 +50,22 @@ loop-less : tie.Need-loop-less Inv-loop μ-loop
 loop-less c = omega arith
 
 loop-again : tie.Need-loop-again Inv-loop μ-loop
-loop-again c = count-turn (c .before .before .before .before .before .loop .inv) (c .before .before .before .before .loop-test .taken) (c .size .result) (row-count _ _ (c .before .union .result) (omega (arith, c .before .union .ok)) (c .before .union .ensures) ∙ sym (c .size .ensures))
+loop-again c = (
+  omega arith,
+  count-turn (c .before .before .before .before .before .loop .inv .1) (omega arith) (c .size .result)
+      (row-count _ _ (c .before .union .result) (omega (arith, c .before .union .ok)) (c .before .union .ensures) ∙ sym (c .size .ensures)),
+)
 
-returns : tie.Need-returns Inv-loop μ-loop
-returns c = count-end (c .before .loop .inv) (c .loop-test .left)
+returns-2 : tie.Need-returns-2 Inv-loop μ-loop
+returns-2 c = (λ _. count-end (c .before .before .before .args .senior) (c .before .loop .inv .1) (omega arith), λ g. omega arith)
 
-pub count-edges-spec : {M : Type 1} → statement M
-count-edges-spec =
+pub edges-below-spec : {M : Type 1} → statement M
+edges-below-spec =
     tie.close
     (tie.spec
     Inv-loop
     μ-loop
+    returns
     loop-holds
     mul-union
     element-copy-out-union
@@ -70,4 +78,4 @@ count-edges-spec =
     add-x
     loop-less
     loop-again
-    returns)
+    returns-2)
