@@ -207,11 +207,19 @@ fn refused_after<'t>(live: u64, i: &'t [u64; 64], a: &'t [u64; 64], c: Command) 
     9
 }
 
-// One command on a board that was found sound, with its views.
-pub fn decide<'v>(b: Board, c: Command, down: &'v [u64; 64], up: &'v [u64; 64]) -> Outcome
-    ensures { λ r. ⌜ (Viewed b (now (down .entry)) (now (up .entry)) → Decided b c (r .number) (r .board)) ⌝ }
+// One command on the board of these tables, which was found sound, with its views.
+pub fn decide<'t>(
+    live: u64,
+    i: &'t [u64; 64],
+    a: &'t [u64; 64],
+    c: Command,
+    down: &'t [u64; 64],
+    up: &'t [u64; 64],
+) -> Outcome
+    ensures { λ r. ⌜ (Viewed (boardOf live (now (i .entry)) (now (a .entry))) (now (down .entry)) (now (up .entry)) → Decided (boardOf live (now (i .entry)) (now (a .entry))) c (r .number) (r .board)) ⌝ }
 {
-    let early = refused_before(b.live, &b.i, &b.a, c, down, up);
+    let early = refused_before(live, i, a, c, down, up);
+    let b = Board { live, i: *i, a: *a };
     if early != 0 {
         return Outcome {
             number: early,
@@ -244,5 +252,5 @@ pub fn step(b: Board, c: Command) -> Outcome
             board: b,
         };
     }
-    decide(b, c, &down, &up)
+    decide(b.live, &b.i, &b.a, c, &down, &up)
 }

@@ -76,6 +76,7 @@ pub fn derives(b: Board, x: u8, y: u8) -> Derived
     derives_by(b.live, &down, x, y)
 }
 
+// The same off the views of a sound board.
 pub fn derives_by(live: u64, down: &[u64; 64], x: u8, y: u8) -> Derived
     ensures { λ r. ⌜ ((b : Board) (up : List ℕ) → b .live ≡ live → Viewed b (now (down .entry)) up → DerivesAnswer b x y (r .number) (r .yes)) ⌝ }
 {
@@ -103,6 +104,7 @@ pub fn scope(b: Board, a: u8, r: u8) -> Scoped
     scope_by(b.live, &down, &up, a, r)
 }
 
+// The same off the views of a sound board.
 pub fn scope_by<'v>(live: u64, down: &'v [u64; 64], up: &'v [u64; 64], a: u8, r: u8) -> Scoped
     ensures { λ y. ⌜ ((b : Board) → b .live ≡ live → Viewed b (now (down .entry)) (now (up .entry)) → ScopeAnswer b a r (y .number) (y .yes) (y .count)) ⌝ }
 {
@@ -135,6 +137,7 @@ pub fn line_manager(b: Board, r: u8) -> Managed
     line_manager_by(b.live, &down, &up, r)
 }
 
+// The same off the views of a sound board.
 pub fn line_manager_by<'v>(live: u64, down: &'v [u64; 64], up: &'v [u64; 64], r: u8) -> Managed
     ensures { λ y. ⌜ ((b : Board) → b .live ≡ live → Viewed b (now (down .entry)) (now (up .entry)) → ManagerAnswer b r (y .number) (y .manager)) ⌝ }
 {
@@ -172,6 +175,7 @@ pub fn steps(b: Board, r: u8) -> Stepped
     steps_by(b.live, &down, &up, r)
 }
 
+// The same off the views of a sound board.
 pub fn steps_by<'v>(live: u64, down: &'v [u64; 64], up: &'v [u64; 64], r: u8) -> Stepped
     ensures { λ y. ⌜ ((b : Board) → b .live ≡ live → Viewed b (now (down .entry)) (now (up .entry)) → StepsAnswer b r (y .number) (y .steps)) ⌝ }
 {

@@ -8,6 +8,7 @@ mod reader;
 mod writer;
 
 ghost use mathlib.Core.Path.{_≡_};
+ghost use Rattle.board.specs.Boards.{boardOf};
 ghost use Rattle.hierarchy.specs.First.{First};
 ghost use Rattle.boardfile.specs.Answers.{ReadAnswer, OpenAnswer, PutAnswer, WriteAnswer, stretchRefusals, BoundsAnswer, StretchAnswer};
 ghost use Rattle.boardfile.specs.Parts.{Asked, Tried};
@@ -121,17 +122,17 @@ pub struct Written {
     pub len: usize,
 }
 
-// The file of a board, sound or not, into a buffer, from a place on.
-pub fn put(b: Board, out: &mut [u8], at: usize) -> Written
-    ensures { λ r. ⌜ PutAnswer b (now (out .entry)) at (now (out .exit)) (r .number) (r .len) ⌝ }
+// The file of the board of these tables, sound or not, into a buffer, from a place on.
+pub fn put<'t>(live: u64, i: &'t [u64; 64], a: &'t [u64; 64], out: &mut [u8], at: usize) -> Written
+    ensures { λ r. ⌜ PutAnswer (boardOf live (now (i .entry)) (now (a .entry))) (now (out .entry)) at (now (out .exit)) (r .number) (r .len) ⌝ }
 {
-    let roles = size(b.live) as usize;
-    let edges = 3 * edges_below(&b.i, &b.a, 64);
+    let roles = size(live) as usize;
+    let edges = 3 * edges_below(i, a, 64);
     let len = roles + edges + TRAILER;
     if out.len() < at || out.len() - at < len {
         return Written { number: 12, len: 0 };
     }
-    put_file(b.live, &b.i, &b.a, roles, edges, &mut out[at..]);
+    put_file(live, i, a, roles, edges, &mut out[at..]);
     Written { number: 0, len }
 }
 
@@ -142,7 +143,7 @@ pub fn write(b: Board, out: &mut [u8], at: usize) -> Written
     if !sound(b) {
         return Written { number: 1, len: 0 };
     }
-    put(b, out, at)
+    put(b.live, &b.i, &b.a, out, at)
 }
 
 // The number of a question about one role of a file: the reader's refusal, or else one by the live roles.

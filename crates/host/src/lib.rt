@@ -101,13 +101,12 @@ fn commanded(file: &[u8], c: Command, out: &mut [u8]) -> u32
     if f.number != 0 {
         return packed(f.number, FILE, 0);
     }
-    let b = Board { live: f.live, i, a };
-    let o = decide(b, c, &down, &up);
+    let o = decide(f.live, &i, &a, c, &down, &up);
     if o.number != 0 {
         return packed(o.number, ASKED, 0);
     }
     let next = o.board;
-    let w = put(next, out, 0);
+    let w = put(next.live, &next.i, &next.a, out, 0);
     if w.number != 0 {
         return packed(w.number, WRITING, 0);
     }

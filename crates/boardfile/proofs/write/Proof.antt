@@ -20,7 +20,7 @@ same-length c = search needs
 
 returns-2 : tie.Need-returns-2
 returns-2 c =
-    let e = c .before .before .before .before in
+    let e = c .before .before .before .before .before .before .before in
     put-writes (e .before .sound .ensures .0 (not-false (e .before .sound .result) (e .if1 .left))) (c .before .before .put .ensures)
 
 pub write-spec : {M : Type 1} → statement M

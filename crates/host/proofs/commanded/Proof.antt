@@ -16,8 +16,8 @@ open-requires c κs = search needs
 packed-requires : tie.Need-packed-requires
 packed-requires c κs = search needs
 
-decided : (c : tie.After-decide) → Decided (boardOf (c .before .before .before .before .before .«open» .result .live) (c .before .before .before .before .before .«open» .last .1 .0) (c .before .before .before .before .before .«open» .last .1 .1 .0)) (c .before .before .before .before .before .before .before .before .before .before .before .before .args .c) (c .decide .result .number) (c .decide .result .board)
-decided c = c .decide .ensures (open-viewed (c .before .before .before .before .before .«open» .ensures) (c .before .before .before .if1 .left))
+decided : (c : tie.After-decide) → Decided (boardOf (c .before .before .before .before .before .before .before .«open» .result .live) (c .before .before .before .before .before .before .before .«open» .last .1 .0) (c .before .before .before .before .before .before .before .«open» .last .1 .1 .0)) (c .before .before .before .before .before .before .before .before .before .before .before .before .before .before .args .c) (c .decide .result .number) (c .decide .result .board)
+decided c = c .decide .ensures (open-viewed (c .before .before .before .before .before .before .before .«open» .ensures) (c .before .before .before .before .before .if1 .left))
 
 returns : tie.Need-returns
 returns c = unread (c .before .before .before .«open» .ensures .reading) (c .before .if1 .taken) refl (c .packed .ensures)
@@ -29,7 +29,7 @@ packed-requires-2 : tie.Need-packed-requires-2
 packed-requires-2 c κs = search needs
 
 returns-2 : tie.Need-returns-2
-returns-2 c = refused (open-read (c .before .before .before .before .before .before .before .before .«open» .ensures) (c .before .before .before .before .before .before .if1 .left)) (decided (c .before .before .before)) (c .before .if2 .taken) refl (c .packed2 .ensures)
+returns-2 c = refused (open-read (c .before .before .before .before .before .before .before .before .before .before .«open» .ensures) (c .before .before .before .before .before .before .before .before .if1 .left)) (decided (c .before .before .before)) (c .before .if2 .taken) refl (c .packed2 .ensures)
 
 put-requires : tie.Need-put-requires
 put-requires c κs = search needs
@@ -42,14 +42,14 @@ same-length c = search needs
 
 returns-3 : tie.Need-returns-3
 returns-3 c =
-    let next = step-done (decided (c .before .before .before .before .before .before .before .before .before .before)) (c .before .before .before .before .before .before .before .before .if2 .left) in
+    let next = step-done (decided (c .before .before .before .before .before .before .before .before .before .before .before .before .before)) (c .before .before .before .before .before .before .before .before .before .before .before .if2 .left) in
     let w = put-writes (sound-next next) (c .before .before .before .before .before .put .ensures) in
     let is-12 = write-refused next w (c .before .if3 .taken) in
-    no-room (open-read (c .before .before .before .before .before .before .before .before .before .before .before .before .before .before .before .«open» .ensures) (c .before .before .before .before .before .before .before .before .before .before .before .before .before .if1 .left)) next (write-is w is-12) (c .packed3 .ensures ∙ ap (λ (k : ℕ). answer k 2 0) is-12)
+    no-room (open-read (c .before .before .before .before .before .before .before .before .before .before .before .before .before .before .before .before .before .before .before .before .«open» .ensures) (c .before .before .before .before .before .before .before .before .before .before .before .before .before .before .before .before .before .before .if1 .left)) next (write-is w is-12) (c .packed3 .ensures ∙ ap (λ (k : ℕ). answer k 2 0) is-12)
 
 cast-packed : tie.Need-cast-packed
 cast-packed c =
-    let short = sound-length (c .before .before .before .before .before .before .before .before .before .before .decide .result .board) (sound-next (step-done (decided (c .before .before .before .before .before .before .before .before .before .before)) (c .before .before .before .before .before .before .before .before .if2 .left))) in
+    let short = sound-length (c .before .before .before .before .before .before .before .before .before .before .before .before .before .decide .result .board) (sound-next (step-done (decided (c .before .before .before .before .before .before .before .before .before .before .before .before .before)) (c .before .before .before .before .before .before .before .before .before .before .before .if2 .left))) in
     record { fits = omega (arith, c .before .before .before .before .before .put .ensures .done (c .before .if3 .left) .0) }
 
 packed-requires-4 : tie.Need-packed-requires-4
@@ -60,8 +60,8 @@ same-length-2 c = search needs
 
 returns-4 : tie.Need-returns-4
 returns-4 c =
-    let next = step-done (decided (c .before .before .before .before .before .before .before .before .before .before .before)) (c .before .before .before .before .before .before .before .before .before .if2 .left) in
-    done (open-read (c .before .before .before .before .before .before .before .before .before .before .before .before .before .before .before .before .«open» .ensures) (c .before .before .before .before .before .before .before .before .before .before .before .before .before .before .if1 .left)) next (write-is (put-writes (sound-next next) (c .before .before .before .before .before .before .put .ensures)) (c .before .before .if3 .left)) (c .packed4 .ensures)
+    let next = step-done (decided (c .before .before .before .before .before .before .before .before .before .before .before .before .before .before)) (c .before .before .before .before .before .before .before .before .before .before .before .before .if2 .left) in
+    done (open-read (c .before .before .before .before .before .before .before .before .before .before .before .before .before .before .before .before .before .before .before .before .before .«open» .ensures) (c .before .before .before .before .before .before .before .before .before .before .before .before .before .before .before .before .before .before .before .if1 .left)) next (write-is (put-writes (sound-next next) (c .before .before .before .before .before .before .put .ensures)) (c .before .before .if3 .left)) (c .packed4 .ensures)
 
 pub commanded-spec : {M : Type 1} → statement M
 commanded-spec =

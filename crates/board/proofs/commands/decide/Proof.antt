@@ -1,3 +1,5 @@
+use Rattle.board.specs.Boards.{boardOf}
+use Rattle.board.specs.declared.Board.{Board}
 use Rattle.board.proofs.Kept.{firm-after}
 use Rattle.board.proofs.Trying.{decided-early, decided-late, decided-done}
 use borrow.Author.Needs.{needs}
@@ -7,8 +9,11 @@ use Rattle.board.proofs.commands.decide.Tie as tie
 refused-before-requires : tie.Need-refused-before-requires
 refused-before-requires c κs = search needs
 
+abbrev board : tie.Start → Board
+board s = boardOf (s .args .live) (s .args .i .now) (s .args .a .now)
+
 returns : tie.Need-returns
-returns c = λ v. decided-early _ _ _ (c .if1 .taken) (c .before .refused-before .ensures v)
+returns c = λ v. decided-early (board (c .before .before .before .before)) (c .before .before .before .before .args .c) (c .before .before .before .refused-before .result) (c .if1 .taken) (c .before .before .before .refused-before .ensures v)
 
 after-requires : tie.Need-after-requires
 after-requires c κs = search needs
@@ -18,15 +23,15 @@ refused-after-requires c κs = search needs
 
 returns-2 : tie.Need-returns-2
 returns-2 c = λ v.
-    let passed = c .before .before .before .before .before .before .before .refused-before .ensures v in
-    let firm = firm-after _ _ (c .before .before .before .before .before .after .result) _ (c .before .before .before .before .before .after .ensures) (c .before .before .before .before .before .before .if1 .left) passed in
-    decided-late _ _ _ (c .before .before .before .before .before .before .if1 .left) passed (c .before .before .before .before .before .after .result) (c .before .before .before .before .before .after .ensures) _ (c .if2 .taken) (c .before .refused-after .ensures (firm .0) (firm .1))
+    let passed = c .before .before .before .before .before .before .before .before .before .refused-before .ensures v in
+    let firm = firm-after (board (c .before .before .before .before .before .before .before .before .before .before)) (c .before .before .before .before .before .before .before .before .before .before .args .c) (c .before .before .before .before .before .after .result) (c .before .before .before .before .before .before .before .before .before .refused-before .result) (c .before .before .before .before .before .after .ensures) (c .before .before .before .before .before .before .if1 .left) passed in
+    decided-late (board (c .before .before .before .before .before .before .before .before .before .before)) (c .before .before .before .before .before .before .before .before .before .before .args .c) (c .before .before .before .before .before .before .before .before .before .refused-before .result) (c .before .before .before .before .before .before .if1 .left) passed (c .before .before .before .before .before .after .result) (c .before .before .before .before .before .after .ensures) (c .before .refused-after .result) (c .if2 .taken) (c .before .refused-after .ensures (firm .0) (firm .1))
 
 returns-3 : tie.Need-returns-3
 returns-3 c = λ v.
-    let passed = c .before .before .before .before .before .before .before .refused-before .ensures v in
-    let firm = firm-after _ _ (c .before .before .before .before .before .after .result) _ (c .before .before .before .before .before .after .ensures) (c .before .before .before .before .before .before .if1 .left) passed in
-    decided-done _ _ _ (c .before .before .before .before .before .before .if1 .left) passed (c .before .before .before .before .before .after .result) (c .before .before .before .before .before .after .ensures) _ (c .if2 .left) (c .before .refused-after .ensures (firm .0) (firm .1))
+    let passed = c .before .before .before .before .before .before .before .before .before .refused-before .ensures v in
+    let firm = firm-after (board (c .before .before .before .before .before .before .before .before .before .before)) (c .before .before .before .before .before .before .before .before .before .before .args .c) (c .before .before .before .before .before .after .result) (c .before .before .before .before .before .before .before .before .before .refused-before .result) (c .before .before .before .before .before .after .ensures) (c .before .before .before .before .before .before .if1 .left) passed in
+    decided-done (board (c .before .before .before .before .before .before .before .before .before .before)) (c .before .before .before .before .before .before .before .before .before .before .args .c) (c .before .before .before .before .before .before .before .before .before .refused-before .result) (c .before .before .before .before .before .before .if1 .left) passed (c .before .before .before .before .before .after .result) (c .before .before .before .before .before .after .ensures) (c .before .refused-after .result) (c .if2 .left) (c .before .refused-after .ensures (firm .0) (firm .1))
 
 pub decide-spec : {M : Type 1} → statement M
 decide-spec =

@@ -22,7 +22,7 @@ decide-requires : tie.Need-decide-requires
 decide-requires c κs = search needs
 
 returns-2 : tie.Need-returns-2
-returns-2 c = c .decide .ensures (viewed (c .before .before .before .before .look .ensures) (not-false _ (c .before .before .before .if1 .left)))
+returns-2 c = c .decide .ensures (viewed (c .before .before .before .before .before .before .before .look .ensures) (not-false _ (c .before .before .before .before .before .before .if1 .left)))
 
 pub step-spec : {M : Type 1} → statement M
 step-spec = tie.close (tie.spec look-requires returns decide-requires returns-2)
