@@ -27,12 +27,9 @@ pub record Spread (table : List ℕ) (Own : ℕ → ℕ → Type 0) (x z : ℕ) 
   pub chain : Chain table x at
   pub on : Own at z
 
--- by I alone every role has itself as its own; by A, and then by I, what it leads to by I
+-- by I alone, where every role has itself as its own; by A and from there by I a role has as its own what it leads to by I
 abbrev pub ByI : List ℕ → ℕ → ℕ → Type 0
 ByI i = Spread i (λ x z. x ≡ z)
-
-abbrev pub ByAI : List ℕ → List ℕ → ℕ → ℕ → Type 0
-ByAI i a = Spread a (ByI i)
 
 -- r is now the row of x: what it has as its own, and the rows of its juniors; the others are as they were
 pub record Settled (table old : List ℕ) (x own r : ℕ) (reach : List ℕ) : Type 0 where

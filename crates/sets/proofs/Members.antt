@@ -4,7 +4,7 @@ use mathlib.Core.Bool.{Bool, false, not, _&&_, and-true}
 use mathlib.Core.Logic.{_⊎_, inl, inr, ⊎-elim}
 use Prim.Native.Nat.{ℕ, _<_}
 use lib.Count.{ones}
-use Rattle.sets.specs.Sets.{bit, _∈_, _⊆_, same?, LowestRole, NoRole, Lowest, ButLowest, HighestRole, Highest}
+use Rattle.sets.specs.Sets.{bit, _∈_, _⊆_, same?, LowestRole, NoRole, Lowest, ButLowest}
 use Rattle.sets.specs.declared.Pick.{Pick}
 use Rattle.sets.specs.declared.Pick.the-variants.{Role, Nobody}
 use Rattle.sets.proofs.Bools.{true-or-false, and-left, and-both}
@@ -67,10 +67,3 @@ picked {s} e l = subst (Lowest s) e l
 
 pub nobody : {s : ℕ} {p : Pick} → p ≡ Nobody → Lowest s p → NoRole s
 nobody {s} e l = subst (Lowest s) e l
-
--- and of `highest`
-pub topmost : {s r : ℕ} {p : Pick} → p ≡ Role r → Highest s p → HighestRole s r
-topmost {s} e l = subst (Highest s) e l
-
-pub no-top : {s : ℕ} {p : Pick} → p ≡ Nobody → Highest s p → NoRole s
-no-top {s} e l = subst (Highest s) e l
