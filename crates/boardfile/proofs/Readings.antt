@@ -10,7 +10,7 @@ use lib.Seq.{length-take-le, drop-drop}
 use Rattle.sets.specs.Sets.{bit}
 use Rattle.sets.proofs.Bools.{lt-or-ge}
 use Rattle.sets.proofs.Digits.{bit-out}
-use Rattle.hierarchy.specs.Tables.{Tables, tables, row, Live, Shaped, kindOf, kind}
+use Rattle.hierarchy.specs.Tables.{Tables, tables, row, Shaped, kindOf, kind}
 use Rattle.hierarchy.specs.Words.{Joined, Loops, Managed, Sound}
 use Rattle.hierarchy.specs.First.{First}
 use Rattle.hierarchy.proofs.Decide.{managed-dec}
@@ -23,7 +23,7 @@ use Rattle.board.proofs.Founding.{founding-sound}
 use Rattle.boardfile.specs.Files.{from, edgeBytes, kindAt, trailer, bytesOf, fileOf}
 use Rattle.boardfile.specs.Faults.{BadFrame, BadRecord}
 use Rattle.boardfile.specs.Parts.{GoodFrame, GoodRoles, GoodEdges, Tried}
-use Rattle.boardfile.specs.Answers.{IsFile, refusals, ReadAnswer, OpenAnswer}
+use Rattle.boardfile.specs.Answers.{IsFile, refusals, OpenAnswer}
 use Rattle.boardfile.proofs.Bytes.{whole}
 use Rattle.boardfile.proofs.Faultless.{Tidy, good-records}
 use Rattle.boardfile.proofs.OneFile.{at-place, one-board}

@@ -7,7 +7,6 @@ mod frame;
 mod reader;
 mod writer;
 
-ghost use mathlib.Core.Path.{_≡_};
 ghost use Rattle.board.specs.Boards.{boardOf};
 ghost use Rattle.hierarchy.specs.First.{First};
 ghost use Rattle.boardfile.specs.Answers.{ReadAnswer, OpenAnswer, PutAnswer, WriteAnswer, stretchRefusals, BoundsAnswer, StretchAnswer};

@@ -2,11 +2,10 @@
 use mathlib.Core.Path.{_≡_, refl, sym, _∙_, ap, subst}
 use mathlib.Core.Logic.{⊎-map, _↔_, Iff·symm, Iff·trans}
 use mathlib.Core.List.{List}
-use Prim.Native.Nat.{ℕ, suc, _^_, _≤_, _<_}
+use Prim.Native.Nat.{ℕ, suc, _≤_}
 use native.Mathlib.Nat.{le-of-eq, le-trans, le-antisymm}
 use native.Mathlib.Omega.{arith}
 use lib.Count.{ones-le}
-use lib.ListN.{length}
 use lib.Seq.{ext-getD}
 use Rattle.sets.specs.Sets.{bit, _∈_}
 use Rattle.sets.specs.declared.Pick.{Pick}
