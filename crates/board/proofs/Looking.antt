@@ -85,13 +85,16 @@ module _ {t : Tables} {down up : List ℕ} (n : ℕ) (w : Weighed t n down up) w
   pub weighed-sound : Sound t → HasViews t down up
   weighed-sound s = w .seen (seven n (weighed-fine s))
 
+  pub no-trouble : Shaped t → Live t 0 → Joined t → n ≡ 0 → Sound t
+  no-trouble shaped root joined z =
+      let p = first-done _ refl (troubles-joined 0 shaped joined (subst (First (troubles t)) z (w .numbered))) in
+      record { shaped = shaped; joined = joined; loopless = p .0; root = root; managed = stable (managed-dec shaped) (p .1 .0) }
+
   pub look-is : Shaped t → Live t 0 → Joined t → Seen t (eqb n 0) down up
-  look-is shaped root joined = record { sound-is = (λ e. sound (eqb-true n 0 e), λ s. eq-eqb n 0 (weighed-fine s)); seen = λ e. w .seen (seven n (eqb-true n 0 e)) }
-    where
-      sound : n ≡ 0 → Sound t
-      sound z =
-          let p = first-done _ refl (troubles-joined 0 shaped joined (subst (First (troubles t)) z (w .numbered))) in
-          record { shaped = shaped; joined = joined; loopless = p .0; root = root; managed = stable (managed-dec shaped) (p .1 .0) }
+  look-is shaped root joined = record {
+    sound-is = (λ e. no-trouble shaped root joined (eqb-true n 0 e), λ s. eq-eqb n 0 (weighed-fine s));
+    seen = λ e. w .seen (seven n (eqb-true n 0 e));
+  }
 
 -- a look that finds nothing sound
 pub unseen : {t : Tables} {down up : List ℕ} → (Sound t → ⊥) → Seen t false down up

@@ -13,12 +13,10 @@ use Rattle.sets.proofs.Digits.{bit-out}
 use Rattle.hierarchy.specs.Tables.{Tables, tables, row, Shaped, kindOf, kind}
 use Rattle.hierarchy.specs.Words.{Joined, Loops, Managed, Sound}
 use Rattle.hierarchy.specs.First.{First}
-use Rattle.hierarchy.proofs.Decide.{managed-dec}
 use Rattle.board.specs.Boards.{tablesOf, boardOf, foundingBoard}
 use Rattle.board.specs.Looks.{Weighed}
 use Rattle.board.specs.declared.Board.{Board}
-use Rattle.board.proofs.Rules.{stable, first-done}
-use Rattle.board.proofs.Looking.{troubles-joined, weighed-sound}
+use Rattle.board.proofs.Looking.{troubles-joined, weighed-sound, no-trouble}
 use Rattle.board.proofs.Founding.{founding-sound}
 use Rattle.boardfile.specs.Files.{from, edgeBytes, kindAt, trailer, bytesOf, fileOf}
 use Rattle.boardfile.specs.Faults.{BadFrame, BadRecord}
@@ -151,14 +149,7 @@ tried {f} {live} {i = i} {a = a} number frame roles edges w = record {
     t = troubles-joined number shaped (joined frame roles edges) (w .numbered)
 
     sound : number ≡ 0 → Sound (tables live i a)
-    sound z =
-        let passed = first-done _ refl (subst (First ((7, Loops (tables live i a)) ∷ (9, (Managed (tables live i a) → ⊥)) ∷ [])) z t) in record {
-          shaped = shaped;
-          joined = joined frame roles edges;
-          loopless = passed .0;
-          root = roles .root;
-          managed = stable (managed-dec shaped) (passed .1 .0);
-        }
+    sound = no-trouble number w shaped (roles .root) (joined frame roles edges)
 
 -- ---- a file opened
 
