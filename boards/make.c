@@ -39,11 +39,11 @@ static size_t lay(uint8_t *file, uint64_t live, const struct edge *edges, size_t
 }
 
 /* One command by whichever role may give it; the new file takes the old one's place. */
-static size_t give(uint8_t *file, size_t len, uint8_t code, uint8_t role, uint8_t junior, uint8_t kind, uint64_t i_seniors)
+static size_t give(uint8_t *file, size_t len, struct command c)
 {
     uint8_t out[BOARD_FILE];
-    for (uint8_t actor = 0; actor < 64; actor++) {
-        uint32_t r = board_command(file, len, code, actor, role, junior, kind, 0, i_seniors, 0, 0, out, sizeof out);
+    for (c.actor = 0; c.actor < BOARD_ROLES; c.actor++) {
+        uint64_t r = board_command(file, len, &c, out, sizeof out);
         if (BOARD_NUMBER(r) != 0) continue;
         memcpy(file, out, BOARD_VALUE(r));
         return BOARD_VALUE(r);
@@ -58,10 +58,11 @@ static void make(const char *name, int roles, const struct edge *edges, size_t c
     uint64_t live = roles == 64 ? ~0ull : (1ull << roles) - 1;
     size_t len = lay(file, live, edges, count);
     if (count > 0) {
-        len = give(file, len, 5, edges[0].senior, edges[0].junior, edges[0].kind, 0);
+        struct edge e = edges[0];
+        len = give(file, len, (struct command){.code = 5, .role = e.senior, .junior = e.junior, .kind = e.kind});
     } else {
-        len = give(file, len, 1, 1, 0, 0, 1);
-        len = give(file, len, 2, 1, 0, 0, 0);
+        len = give(file, len, (struct command){.code = 1, .role = 1, .i_seniors = 1});
+        len = give(file, len, (struct command){.code = 2, .role = 1});
     }
     FILE *out = fopen(name, "wb");
     if (!out || fwrite(file, 1, len, out) != len || fclose(out) != 0) {

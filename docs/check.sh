@@ -1,5 +1,6 @@
 #!/bin/sh
-# Every public function has its line in CONTRACTS.md, under its crate's heading; none has a `requires`, and each has an `ensures`.
+# Every public function has its line in CONTRACTS.md, under its crate's heading, and each line there its function; none has a `requires`,
+# each has an `ensures`, and no `ensures` has a premise: the only arrows in it are those of "for every x".
 set -eu
 cd "$(dirname "$0")/.."
 status=0
@@ -13,12 +14,27 @@ for crate in crates/*/; do
             status=1
         }
     done
+    for function in $(printf '%s\n' "$part" | sed -nE 's/^\| `([A-Za-z_]+::)*([a-z_0-9]+)\(.*/\2/p'); do
+        grep -qE "^ *pub (extern \"C\" )?fn $function\b" "$crate"src/*.rt || {
+            echo "docs/CONTRACTS.md has a line for $name: $function, which is no public function" >&2
+            status=1
+        }
+    done
     awk -v name="$name" '
-        function done() { if (fn != "" && (!ensures || requires)) { print name ": " fn (requires ? " has a requires" : " has no ensures"); bad = 1 } fn = "" }
-        /^ *pub (extern "C" )?fn / { done(); fn = $0; ensures = requires = 0 }
-        fn != "" && /^ *ensures/ { ensures = 1 }
-        fn != "" && /^ *requires/ { requires = 1 }
+        function done() {
+            if (fn == "") return
+            while (sub(/\([^():]+ : [^():]+\) →/, "", promise)) {}
+            if (requires) wrong("has a requires")
+            if (promise == "") wrong("has no ensures")
+            if (promise ~ /→/) wrong("has a premise in its ensures")
+            fn = ""
+        }
+        function wrong(what) { print name ": " fn " " what; bad = 1 }
+        /^ *pub (extern "C" )?fn / { done(); fn = $0; promise = ""; requires = promising = 0 }
+        fn != "" && /^ *requires/ { requires = 1; promising = 0 }
+        fn != "" && /^ *ensures/ { promising = 1 }
         fn != "" && /^ *\{ *$/ { done() }
+        fn != "" && promising { promise = promise $0 }
         END { done(); exit bad }' "$crate"src/*.rt >&2 || status=1
 done
 exit $status

@@ -9,10 +9,11 @@
  *
  *     uint8_t file[BOARD_FILE], next[BOARD_FILE];
  *     size_t len = ...;                                            // a board file, read from somewhere
- *     uint32_t r = board_manager(file, len, 5);
+ *     uint64_t r = board_manager(file, len, 5);
  *     if (BOARD_NUMBER(r) == 0 && BOARD_VALUE(r) != BOARD_NO_MANAGER)
  *         printf("5 reports to %u\n", BOARD_VALUE(r));
- *     r = board_command(file, len, 2, 0, 5, 0, 0, 0, 0, 0, 0, next, sizeof next);   // role 0 removes role 5
+ *     struct command c = { .code = 2, .actor = 0, .role = 5 };     // role 0 removes role 5
+ *     r = board_command(file, len, &c, next, sizeof next);
  *     if (BOARD_NUMBER(r) == 0)
  *         fwrite(next, 1, BOARD_VALUE(r), stdout);                 // the new file
  *     else
@@ -32,15 +33,15 @@ extern "C" {
 #define BOARD_EDGES 2016 /* the most a board can have without a loop */
 #define BOARD_FILE 6118  /* the bytes of the longest board file */
 
-/* ---- answers: a refusal number, where it arose, and a value */
+/* ---- answers: a refusal number, where it arose, and a value, in one number */
 
 /* 0 done; 1 the board is not sound; 2 a number out of range; 3 a role isn't live; 4 the role or the edge stands
  * already; 5 there is no such edge; 6 out of the actor's scope; 7 some role would reach itself; 8 the new role would be
  * outside the actor's strict scope; 9 some role would have no administrator; 10 bad frame of the file; 11 bad record in
  * the file; 12 not enough room in `out`. The first that holds, in the order of the project's scope document. */
-#define BOARD_NUMBER(answer) ((uint8_t)((answer)&0xff))
+#define BOARD_NUMBER(answer) ((uint32_t)((answer)&0xff))
 
-#define BOARD_PLACE(answer) ((uint8_t)((answer) >> 8 & 0xff))
+#define BOARD_PLACE(answer) ((uint32_t)((answer) >> 8 & 0xff))
 #define BOARD_PLACE_ASKED 0   /* the command or the question (and every answer with number 0) */
 #define BOARD_PLACE_FILE 1    /* the file handed in */
 #define BOARD_PLACE_WRITING 2 /* `out` is too short */
@@ -48,11 +49,7 @@ extern "C" {
 /* Beside a refusal the value is 0, and BOARD_NO_MANAGER from board_manager. */
 #define BOARD_VALUE(answer) ((uint32_t)((answer) >> 16 & 0xffff))
 
-/* ---- commands
- *
- * Code 1 adds a role, 2 removes one, 3 adds an edge, 4 removes one, 5 changes its kind. `role` is the role of 1 and 2,
- * and the senior of 3, 4 and 5; the kind is 1 (I), 2 (A) or 3 (both). The four sets are for code 1: bit r is role r.
- * What a command doesn't use may hold anything. */
+/* ---- commands */
 
 /* Bit r of `live`: role r is live. Bit j of i[s] (of a[s]): senior s has junior j in the I table (in the A table). The
  * founding board is { 1 }: role 0 is live, and there is no edge. */
@@ -60,38 +57,43 @@ struct board {
     uint64_t live, i[BOARD_ROLES], a[BOARD_ROLES];
 };
 
-/* One command on a board. Returns the number; 0 changes the board, any other leaves it as it was. */
-uint8_t board_apply(struct board *b, uint8_t code, uint8_t actor, uint8_t role, uint8_t junior, uint8_t kind,
-                    uint64_t a_seniors, uint64_t i_seniors, uint64_t a_juniors, uint64_t i_juniors);
+/* Code 1 adds a role, 2 removes one, 3 adds an edge, 4 removes one, 5 changes its kind. `role` is the role of 1 and 2,
+ * and the senior of 3, 4 and 5; the kind is 1 (I), 2 (A) or 3 (both). The four sets are for code 1: bit r is role r.
+ * What a command doesn't use may hold anything. A number that is no role stays none: it is 2, and not cut to a role. */
+struct command {
+    uint32_t code, actor, role, junior, kind;
+    uint64_t a_seniors, i_seniors, a_juniors, i_juniors;
+};
+
+/* One command on a board. Number 0 changes the board, any other leaves it as it was; place and value are 0. */
+uint64_t board_apply(struct board *b, const struct command *c);
 
 /* The same on the board in a file. Done puts the new file at the start of `out` (BOARD_FILE bytes are always enough),
  * and its length is the value; the rest of `out` stays. A refusal leaves all of `out` as it was. */
-uint32_t board_command(const uint8_t *file, size_t file_len, uint8_t code, uint8_t actor, uint8_t role,
-                       uint8_t junior, uint8_t kind, uint64_t a_seniors, uint64_t i_seniors, uint64_t a_juniors,
-                       uint64_t i_juniors, uint8_t *out, size_t out_len);
+uint64_t board_command(const uint8_t *file, size_t file_len, const struct command *c, uint8_t *out, size_t out_len);
 
 /* ---- questions about the board in a file */
 
 /* Can the file be read. */
-uint32_t board_check(const uint8_t *file, size_t file_len);
+uint64_t board_check(const uint8_t *file, size_t file_len);
 
 /* Does x derive y: the value is 1 for yes, 0 for no. */
-uint32_t board_derives(const uint8_t *file, size_t file_len, uint8_t x, uint8_t y);
+uint64_t board_derives(const uint8_t *file, size_t file_len, uint32_t x, uint32_t y);
 
 /* Is r in the scope of a, and how many live roles are in that scope, a itself among them. */
-uint32_t board_scope(const uint8_t *file, size_t file_len, uint8_t a, uint8_t r);
+uint64_t board_scope(const uint8_t *file, size_t file_len, uint32_t a, uint32_t r);
 #define BOARD_SCOPE_YES(answer) ((uint32_t)((answer) >> 16 & 1))
 #define BOARD_SCOPE_COUNT(answer) ((uint32_t)((answer) >> 17 & 0x7fff))
 
 /* The line manager of r. Role 0 has none, which is no refusal. */
-uint32_t board_manager(const uint8_t *file, size_t file_len, uint8_t r);
+uint64_t board_manager(const uint8_t *file, size_t file_len, uint32_t r);
 #define BOARD_NO_MANAGER 64
 
 /* The number of steps from r to role 0 by line managers. */
-uint32_t board_steps(const uint8_t *file, size_t file_len, uint8_t r);
+uint64_t board_steps(const uint8_t *file, size_t file_len, uint32_t r);
 
 /* Where the edge records of a senior stand in the file. One with no edge has length 0, and then start 0. */
-uint64_t board_stretch(const uint8_t *file, size_t file_len, uint8_t role);
+uint64_t board_stretch(const uint8_t *file, size_t file_len, uint32_t role);
 #define BOARD_STRETCH_START(answer) ((uint32_t)((answer) >> 16 & 0xffff))
 #define BOARD_STRETCH_LENGTH(answer) ((uint32_t)((answer) >> 32 & 0xffff))
 

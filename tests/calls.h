@@ -4,19 +4,15 @@
 
 #include <board.h> /* found by the path that run.sh gives: the library's own, once there is one */
 
-#define NINE_NUMBERS                                                                                       \
-    uint8_t code, uint8_t actor, uint8_t role, uint8_t junior, uint8_t kind, uint64_t a_seniors,           \
-        uint64_t i_seniors, uint64_t a_juniors, uint64_t i_juniors
-
 struct calls {
-    uint8_t (*apply)(struct board *b, NINE_NUMBERS);
-    uint32_t (*command)(const uint8_t *file, size_t len, NINE_NUMBERS, uint8_t *out, size_t room);
-    uint32_t (*check)(const uint8_t *file, size_t len);
-    uint32_t (*derives)(const uint8_t *file, size_t len, uint8_t x, uint8_t y);
-    uint32_t (*scope)(const uint8_t *file, size_t len, uint8_t a, uint8_t r);
-    uint32_t (*manager)(const uint8_t *file, size_t len, uint8_t r);
-    uint32_t (*steps)(const uint8_t *file, size_t len, uint8_t r);
-    uint64_t (*stretch)(const uint8_t *file, size_t len, uint8_t role);
+    uint64_t (*apply)(struct board *b, const struct command *c);
+    uint64_t (*command)(const uint8_t *file, size_t len, const struct command *c, uint8_t *out, size_t room);
+    uint64_t (*check)(const uint8_t *file, size_t len);
+    uint64_t (*derives)(const uint8_t *file, size_t len, uint32_t x, uint32_t y);
+    uint64_t (*scope)(const uint8_t *file, size_t len, uint32_t a, uint32_t r);
+    uint64_t (*manager)(const uint8_t *file, size_t len, uint32_t r);
+    uint64_t (*steps)(const uint8_t *file, size_t len, uint32_t r);
+    uint64_t (*stretch)(const uint8_t *file, size_t len, uint32_t role);
 };
 
 #define CALLS(p)                                                                                           \
@@ -25,14 +21,15 @@ struct calls {
     }
 
 #define DECLARE_CALLS(p)                                                                                   \
-    uint8_t p##_apply(struct board *b, NINE_NUMBERS);                                                      \
-    uint32_t p##_command(const uint8_t *file, size_t len, NINE_NUMBERS, uint8_t *out, size_t room);        \
-    uint32_t p##_check(const uint8_t *file, size_t len);                                                   \
-    uint32_t p##_derives(const uint8_t *file, size_t len, uint8_t x, uint8_t y);                           \
-    uint32_t p##_scope(const uint8_t *file, size_t len, uint8_t a, uint8_t r);                             \
-    uint32_t p##_manager(const uint8_t *file, size_t len, uint8_t r);                                      \
-    uint32_t p##_steps(const uint8_t *file, size_t len, uint8_t r);                                        \
-    uint64_t p##_stretch(const uint8_t *file, size_t len, uint8_t role);
+    uint64_t p##_apply(struct board *b, const struct command *c);                                          \
+    uint64_t p##_command(const uint8_t *file, size_t len, const struct command *c, uint8_t *out,           \
+                         size_t room);                                                                     \
+    uint64_t p##_check(const uint8_t *file, size_t len);                                                   \
+    uint64_t p##_derives(const uint8_t *file, size_t len, uint32_t x, uint32_t y);                         \
+    uint64_t p##_scope(const uint8_t *file, size_t len, uint32_t a, uint32_t r);                           \
+    uint64_t p##_manager(const uint8_t *file, size_t len, uint32_t r);                                     \
+    uint64_t p##_steps(const uint8_t *file, size_t len, uint32_t r);                                       \
+    uint64_t p##_stretch(const uint8_t *file, size_t len, uint32_t role);
 
 /* The subject of a test: the library, or with -DSUBJECT_PLAIN the plain C in its place. */
 #ifdef SUBJECT_PLAIN

@@ -1,7 +1,8 @@
 #!/bin/sh
 # The tests from outside. See README.md.
 #
-#   tests/run.sh sample | full       the model against the library
+#   tests/run.sh sample | full       the records' layout, then the model against the library
+#   tests/run.sh layout              the records' layout alone
 #   tests/run.sh replay FILE         the case lines that a disagreement printed ("-": standard input)
 #   tests/run.sh mutations           the broken models of mutations.txt: the comparison must notice each
 #   tests/run.sh bench | stack       what a call costs, in time and in stack
@@ -94,6 +95,11 @@ build_compare() { # OUT MODEL_FOLDER: all but the model is compiled once
 
 run() { ${emulator:+"$emulator"} "$@"; }
 
+layout() {
+    program "$build/layout" "$here/layout.c" ${plain:+"$plain"}
+    run "$build/layout"
+}
+
 # ---- mutations
 
 # Copies the model and changes the one line that is `old`, apart from its indent, into `new`.
@@ -148,8 +154,13 @@ case ${1:-} in
 sample | full)
     tools
     say "$1 comparison, $subject, $where"
+    layout
     build_compare "$build/compare" "$here/model"
     run "$build/compare" "--$1" --seed "$seed"
+    ;;
+layout)
+    tools
+    layout
     ;;
 replay)
     [ $# -eq 2 ] || die "usage: tests/run.sh replay FILE"

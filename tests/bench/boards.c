@@ -107,25 +107,21 @@ long perform(enum deed deed, const struct calls *c, struct sample *s, long times
     struct board *b = &s->board;
     const uint8_t *file = s->file, last = s->last, kind = (b->i[0] >> 1 & 1) | (b->a[0] >> 1 & 1) << 1;
     const size_t len = s->len;
+    const struct command come = {.code = 1, .role = 1, .i_seniors = 1}, go = {.code = 2, .role = 1};
+    const struct command turn = {.code = 5, .junior = 1, .kind = kind % 3 + 1};
+    const struct command keep = {.code = 5, .junior = 1, .kind = kind};
+    const struct command founder_goes = {.code = 2}, loop = {.code = 3, .role = last == 0 ? 0 : 1, .kind = 1};
 
     switch (deed) {
     case DONE: /* a role comes and goes, or an edge changes its kind and back */
         for (long k = 0; k < times; k++) {
-            if (last == 0) {
-                expect(deed, s, c->apply(b, 1, 0, 1, 0, 0, 0, 1, 0, 0), 0);
-                expect(deed, s, c->apply(b, 2, 0, 1, 0, 0, 0, 0, 0, 0), 0);
-            } else {
-                expect(deed, s, c->apply(b, 5, 0, 0, 1, kind % 3 + 1, 0, 0, 0, 0), 0);
-                expect(deed, s, c->apply(b, 5, 0, 0, 1, kind, 0, 0, 0, 0), 0);
-            }
+            expect(deed, s, c->apply(b, last == 0 ? &come : &turn), 0);
+            expect(deed, s, c->apply(b, last == 0 ? &go : &keep), 0);
         }
         return 2 * times;
-    case REFUSED_6: REPEAT(c->apply(b, 2, 0, 0, 0, 0, 0, 0, 0, 0), 6); break;
-    case REFUSED_7: REPEAT(c->apply(b, 3, 0, last == 0 ? 0 : 1, 0, 1, 0, 0, 0, 0), 7); break;
-    case COMMAND:
-        if (last == 0) REPEAT(c->command(file, len, 1, 0, 1, 0, 0, 0, 1, 0, 0, out, sizeof out), 0);
-        else REPEAT(c->command(file, len, 5, 0, 0, 1, kind, 0, 0, 0, 0, out, sizeof out), 0);
-        break;
+    case REFUSED_6: REPEAT(c->apply(b, &founder_goes), 6); break;
+    case REFUSED_7: REPEAT(c->apply(b, &loop), 7); break;
+    case COMMAND: REPEAT(c->command(file, len, last == 0 ? &come : &keep, out, sizeof out), 0); break;
     case CHECK: REPEAT(c->check(file, len), 0); break;
     case DERIVES: REPEAT(c->derives(file, len, 0, last), 0); break;
     case SCOPE: REPEAT(c->scope(file, len, 0, last), 0); break;

@@ -17,25 +17,24 @@ static const struct calls *inner;
 static uint8_t *frame;
 
 #define NOTED (frame = __builtin_frame_address(0), inner)
-#define NUMBERS code, actor, role, junior, kind, a_seniors, i_seniors, a_juniors, i_juniors
 
-static uint8_t noted_apply(struct board *b, NINE_NUMBERS) { return NOTED->apply(b, NUMBERS); }
-static uint32_t noted_command(const uint8_t *file, size_t len, NINE_NUMBERS, uint8_t *out, size_t room)
+static uint64_t noted_apply(struct board *b, const struct command *c) { return NOTED->apply(b, c); }
+static uint64_t noted_command(const uint8_t *file, size_t len, const struct command *c, uint8_t *out, size_t room)
 {
-    return NOTED->command(file, len, NUMBERS, out, room);
+    return NOTED->command(file, len, c, out, room);
 }
-static uint32_t noted_check(const uint8_t *file, size_t len) { return NOTED->check(file, len); }
-static uint32_t noted_derives(const uint8_t *file, size_t len, uint8_t x, uint8_t y)
+static uint64_t noted_check(const uint8_t *file, size_t len) { return NOTED->check(file, len); }
+static uint64_t noted_derives(const uint8_t *file, size_t len, uint32_t x, uint32_t y)
 {
     return NOTED->derives(file, len, x, y);
 }
-static uint32_t noted_scope(const uint8_t *file, size_t len, uint8_t a, uint8_t r)
+static uint64_t noted_scope(const uint8_t *file, size_t len, uint32_t a, uint32_t r)
 {
     return NOTED->scope(file, len, a, r);
 }
-static uint32_t noted_manager(const uint8_t *file, size_t len, uint8_t r) { return NOTED->manager(file, len, r); }
-static uint32_t noted_steps(const uint8_t *file, size_t len, uint8_t r) { return NOTED->steps(file, len, r); }
-static uint64_t noted_stretch(const uint8_t *file, size_t len, uint8_t role)
+static uint64_t noted_manager(const uint8_t *file, size_t len, uint32_t r) { return NOTED->manager(file, len, r); }
+static uint64_t noted_steps(const uint8_t *file, size_t len, uint32_t r) { return NOTED->steps(file, len, r); }
+static uint64_t noted_stretch(const uint8_t *file, size_t len, uint32_t role)
 {
     return NOTED->stretch(file, len, role);
 }

@@ -19,7 +19,7 @@ static struct {
     const uint8_t *file;
     size_t len, room;
     const struct command *command;
-    uint8_t x, y;
+    uint32_t x, y;
 } now;
 
 /* ---- the line that replays a case */
@@ -78,17 +78,29 @@ void watch_for_crashes(void)
 
 enum { WALL = 65536, GUARD = 64 }; /* a wall is as long as the longest page of a kernel we may meet */
 
-/* A copy of the file that ends where unreadable memory begins. */
+/* Unreadable memory, with memory before it that can be lent. */
+static uint8_t *build_wall(void)
+{
+    uint8_t *place = mmap(NULL, 4 * WALL, PROT_READ | PROT_WRITE, MAP_PRIVATE | MAP_ANONYMOUS, -1, 0);
+    if (place == MAP_FAILED) abort();
+    uint8_t *wall = place + 2 * WALL + (WALL - (uintptr_t)place % WALL) % WALL;
+    if (mprotect(wall, WALL, PROT_NONE) != 0) abort();
+    return wall;
+}
+
+/* Copies of the file and of the command that end where unreadable memory begins. */
 static uint8_t *lend(const uint8_t *file, size_t len)
 {
     static uint8_t *wall;
-    if (wall == NULL) {
-        uint8_t *place = mmap(NULL, 4 * WALL, PROT_READ | PROT_WRITE, MAP_PRIVATE | MAP_ANONYMOUS, -1, 0);
-        if (place == MAP_FAILED) abort();
-        wall = place + 2 * WALL + (WALL - (uintptr_t)place % WALL) % WALL;
-        if (mprotect(wall, WALL, PROT_NONE) != 0) abort();
-    }
+    if (wall == NULL) wall = build_wall();
     return memcpy(wall - len, file, len);
+}
+
+static struct command *lend_command(const struct command *c)
+{
+    static uint8_t *wall;
+    if (wall == NULL) wall = build_wall();
+    return memcpy(wall - sizeof *c, c, sizeof *c);
 }
 
 /* What memory holds before a call: any pattern serves that a byte moved or cleared would break. */
@@ -103,6 +115,19 @@ static void paint(uint8_t *at, size_t len)
 
 static int code_class(const struct command *c) { return c->code >= 1 && c->code <= 5 ? c->code : 0; }
 
+/* A number above 255 is all that is out of range where the command with it cut to 8 bits isn't refused with 2. */
+static void tally_wide(enum call call, const struct view *v, const struct command *c, uint8_t number)
+{
+    static struct view after;
+    for (int field = 0; field < FIELDS; field++) {
+        struct command cut = *c;
+        if (*field_of(&cut, field) <= 255) continue;
+        *field_of(&cut, field) &= 255;
+        if (number == 0) tally.wide_unused[call][field]++;
+        else if (number == 2 && decide(v, &cut, &after) != 2) tally.wide_used[call][field]++;
+    }
+}
+
 uint8_t try_apply(const struct view *v, const struct board *b, const struct command *c, struct view *after)
 {
     static struct lent {
@@ -110,6 +135,7 @@ uint8_t try_apply(const struct view *v, const struct board *b, const struct comm
         struct board board;
         uint8_t after[GUARD];
     } lent, want;
+    const struct command *command = lend_command(c);
 
     now.call = APPLY, now.board = b, now.command = c;
     tally.calls++;
@@ -120,12 +146,14 @@ uint8_t try_apply(const struct view *v, const struct board *b, const struct comm
     uint8_t number = decide(v, c, after);
     if (number == 0) to_board(&after->board, &want.board);
 
-    uint8_t said = subject.apply(&lent.board, c->code, c->actor, c->role, c->junior, c->kind, c->a_seniors,
-                                 c->i_seniors, c->a_juniors, c->i_juniors);
-    if (said != number) disagree("number %u, the model %u", said, number);
-    if (memcmp(&lent.board, &want.board, sizeof want.board) != 0) disagree("number %u, another board afterwards", said);
+    uint64_t said = subject.apply(&lent.board, command);
+    if (said != number) disagree("answer %#llx, the model %#x", (unsigned long long)said, number);
+    if (memcmp(&lent.board, &want.board, sizeof want.board) != 0)
+        disagree("number %u, another board afterwards", number);
     if (memcmp(&lent, &want, sizeof want) != 0) disagree("bytes outside the board were touched");
+    if (memcmp(command, c, sizeof *c) != 0) disagree("the command was touched");
 
+    tally_wide(APPLY, v, c, number);
     tally.apply[code_class(c)][number]++;
     if (number == 0 && c->code == CHANGE_EDGE && memcmp(b, &want.board, sizeof *b) == 0) tally.idle_change++;
     if (number == 7 && c->code == ADD_EDGE && !v->derives[c->junior][c->role]) tally.hidden_loop++;
@@ -143,7 +171,7 @@ static bool seniors_in_scope(const struct view *v, int a, int r)
     return seniors > 0;
 }
 
-void try_question(const struct opened *o, enum call call, uint8_t x, uint8_t y)
+void try_question(const struct opened *o, enum call call, uint32_t x, uint32_t y)
 {
     const uint8_t *file = lend(o->file, o->len);
     uint64_t said = 0, want = 0;
@@ -162,6 +190,9 @@ void try_question(const struct opened *o, enum call call, uint8_t x, uint8_t y)
     if (memcmp(file, o->file, o->len) != 0) disagree("the file was touched");
 
     tally.question[call][BOARD_PLACE(want)][BOARD_NUMBER(want)]++;
+    bool asks_two = call == DERIVES || call == SCOPE, refused = BOARD_NUMBER(want) == 2;
+    if (refused && x > 255 && x % 256 < ROLES && (!asks_two || y < ROLES)) tally.wide_role[call][0]++;
+    if (refused && y > 255 && y % 256 < ROLES && asks_two && x < ROLES) tally.wide_role[call][1]++;
     if (BOARD_NUMBER(want) != 0) return;
     uint64_t value = want >> 16;
     bool some = call == SCOPE ? value & 1 : call == MANAGER ? value != NONE : value != 0;
@@ -174,6 +205,7 @@ void try_command(const struct opened *o, const struct command *c, size_t room)
 {
     static uint8_t lent[GUARD + ROOM + GUARD], want[sizeof lent];
     const uint8_t *file = lend(o->file, o->len);
+    const struct command *command = lend_command(c);
     size_t all = GUARD + room + GUARD;
 
     now.call = COMMAND, now.file = o->file, now.len = o->len, now.command = c, now.room = room;
@@ -181,13 +213,14 @@ void try_command(const struct opened *o, const struct command *c, size_t room)
     tally.commands++;
     paint(lent, all);
     memcpy(want, lent, all);
-    uint32_t answer = answer_command(o, c, want + GUARD, room);
-    uint32_t said = subject.command(file, o->len, c->code, c->actor, c->role, c->junior, c->kind, c->a_seniors,
-                                    c->i_seniors, c->a_juniors, c->i_juniors, lent + GUARD, room);
-    if (said != answer) disagree("answer %#x, the model %#x", said, answer);
-    if (memcmp(lent, want, all) != 0) disagree("answer %#x, other bytes in the buffer or around it", said);
+    unsigned long long answer = answer_command(o, c, want + GUARD, room);
+    unsigned long long said = subject.command(file, o->len, command, lent + GUARD, room);
+    if (said != answer) disagree("answer %#llx, the model %#llx", said, answer);
+    if (memcmp(lent, want, all) != 0) disagree("answer %#llx, other bytes in the buffer or around it", said);
     if (memcmp(file, o->file, o->len) != 0) disagree("the file was touched");
+    if (memcmp(command, c, sizeof *c) != 0) disagree("the command was touched");
 
+    if (o->number == 0) tally_wide(COMMAND, &o->view, c, BOARD_NUMBER(answer));
     tally.command[code_class(c)][BOARD_PLACE(answer)][BOARD_NUMBER(answer)]++;
     if (BOARD_NUMBER(answer) == 0 && BOARD_VALUE(answer) == room) tally.room_exact++;
     if (BOARD_NUMBER(answer) == 12 && room == 0) tally.room_none++;

@@ -15,3 +15,9 @@ uint64_t draw64(void)
 
 int below(int n) { return (int)((draw64() >> 33) % (uint64_t)n); }
 bool chance(int percent) { return below(100) < percent; }
+
+uint32_t wide(uint32_t low)
+{
+    static const uint32_t high[] = {256, 65536, 1u << 31};
+    return chance(10) ? UINT32_MAX : high[below(3)] | low;
+}

@@ -102,13 +102,13 @@ static struct opened opened;
 static uint8_t file[BUFFER];
 
 /* Mostly a role of the board, at times one that isn't live or is no role. */
-static uint8_t some_role(void)
+static uint32_t some_role(void)
 {
     int r = below(ROLES);
     if (chance(6)) return chance(50) ? ROLES : ROLES + below(256 - ROLES);
     if (chance(8)) return r;
     for (int k = 0; k < ROLES && !opened.view.board.live[r]; k++) r = (r + 1) % ROLES;
-    return r;
+    return chance(10) ? wide(r) : (uint32_t)r;
 }
 
 /* Long enough, exactly so, one byte short, nothing, or any. */
@@ -118,7 +118,7 @@ static size_t some_room(const struct command *c)
     if (chance(60)) return chance(90) ? 1000 : ROOM;
     if (chance(15)) return 0;
     if (chance(20)) return below(FILE_MOST + 20);
-    uint32_t answer = answer_command(&opened, c, out, ROOM);
+    uint64_t answer = answer_command(&opened, c, out, ROOM);
     if (BOARD_NUMBER(answer) != 0) return below(200);
     if (chance(50)) return BOARD_VALUE(answer);
     tally.room_short++;
@@ -131,7 +131,7 @@ static void ask_some(int commands, int questions)
     try_question(&opened, CHECK, 0, 0);
     for (int k = 0; k < questions; k++) {
         enum call call = DERIVES + below(STRETCH - DERIVES + 1);
-        uint8_t x = some_role(), y = chance(5) ? x : some_role();
+        uint32_t x = some_role(), y = chance(5) ? x : some_role();
         try_question(&opened, call, x, y);
     }
     for (int k = 0; k < commands; k++) {
@@ -207,7 +207,7 @@ static void rare_refusals(void)
     if (draw_refused(&here, CHANGE_EDGE, 9, &c)) try_both(&c);
     open_file(&opened, file, make_file(AS_WRITTEN, &here, file));
     for (int k = 0; k < 10; k++) {
-        uint8_t a = some_role(), r = some_role();
+        uint32_t a = some_role(), r = some_role();
         try_question(&opened, SCOPE, a, r);
     }
     draw_chained(&here);

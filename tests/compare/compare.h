@@ -9,6 +9,7 @@ void seed_with(uint64_t seed);
 uint64_t draw64(void);
 int below(int n); /* 0 to n - 1 */
 bool chance(int percent);
+uint32_t wide(uint32_t low); /* above 255, and mostly `low` where it is cut to 8 bits */
 
 /* ---- draw.c: boards and commands */
 void draw_sound(struct view *v, int most);  /* sound, at most so many roles, mixed kinds */
@@ -18,6 +19,8 @@ void draw_any(struct view *v, int most);    /* no loop, and mostly not sound */
 void draw_tied(struct view *v);             /* small, sound, and easily left with a role unmanaged */
 void draw_chained(struct view *v);          /* small, sound, with roles that reach what they don't derive */
 void draw_command(const struct view *v, struct command *c);
+enum { CODE, ACTOR, ROLE, JUNIOR, KIND, FIELDS };
+uint32_t *field_of(struct command *c, int field);
 /* Draws until the model gives this number, or gives up: some numbers are rare. */
 bool draw_refused(const struct view *v, int code, int number, struct command *c);
 /* An edge whose junior reaches its senior and doesn't derive it. */
@@ -49,7 +52,7 @@ extern const char *const call_name[CALL_COUNT];
 /* Both sides get the board and the command; the number and the board afterwards must agree.
  * `after` is the model's board afterwards where the number is 0. */
 uint8_t try_apply(const struct view *v, const struct board *b, const struct command *c, struct view *after);
-void try_question(const struct opened *o, enum call call, uint8_t x, uint8_t y);
+void try_question(const struct opened *o, enum call call, uint32_t x, uint32_t y);
 void try_command(const struct opened *o, const struct command *c, size_t room);
 void disagree(const char *what, ...); /* prints the case in hand and ends the program */
 int replay(const char *name);         /* a file of case lines, or "-" */
@@ -67,6 +70,8 @@ struct tally {
     long full_roles, full_edges, longest_file, too_long_file, many_edges; /* edges of size */
     long room_exact, room_short, room_none, idle_change, most_steps;
     long hidden_loop, seniors_in_scope; /* where a careful reader slips */
+    long wide_used[2][FIELDS], wide_unused[2][FIELDS]; /* above 255, of apply and command: 2 for that alone; done */
+    long wide_role[CALL_COUNT][2];                     /* above 255, first or second of a question: 2 for that alone */
 };
 extern struct tally tally;
 int print_tally(long least); /* how many classes are not filled, or filled though they can't be */

@@ -190,7 +190,7 @@ static int roles_in_scope(const struct view *v, int a, int scope[ROLES])
     return count;
 }
 
-static bool pick_edge(const struct model *m, uint8_t *senior, uint8_t *junior)
+static bool pick_edge(const struct model *m, uint32_t *senior, uint32_t *junior)
 {
     int x = below(ROLES), y = below(ROLES);
     for (int k = 0; k < ROLES; k++, x = (x + 1) % ROLES) {
@@ -263,10 +263,10 @@ bool draw_unsound(int way, struct view *v, struct board *b)
 
 /* ---- commands */
 
-static uint64_t one(int r) { return r < ROLES ? 1ull << r : 0; }
+static uint64_t one(uint32_t r) { return r < ROLES ? 1ull << r : 0; }
 
 /* Into the first set, the second or both. */
-static void name(int r, uint64_t *i, uint64_t *a)
+static void name(uint32_t r, uint64_t *i, uint64_t *a)
 {
     int kind = draw_kind();
     if (kind != 2) *i |= one(r);
@@ -281,7 +281,7 @@ static void fair_add_role(const struct view *v, struct command *c)
     for (int k = chance(5) ? 0 : 1 + below(2); k > 0; k--) name(scope[below(count)], &c->i_seniors, &c->a_seniors);
     if (chance(40)) c->i_seniors |= one(c->actor);
     for (int k = chance(50) ? 0 : 1 + below(2); k > 0; k--) {
-        int junior = scope[below(count)];
+        uint32_t junior = scope[below(count)];
         if (junior != c->actor) name(junior, &c->i_juniors, &c->a_juniors);
     }
     /* most juniors that are above a senior go, or nearly all would end in a loop */
@@ -316,11 +316,11 @@ static void fair_old_edge(const struct view *v, struct command *c)
     }
     for (int k = 0; k < 8; k++) {
         if (in_scope(v, c->actor, c->role) && in_scope(v, c->actor, c->junior)) break;
-        c->actor = k == 0 ? c->role : pick_live(&v->board);
+        c->actor = k == 0 ? c->role : (uint32_t)pick_live(&v->board);
     }
 }
 
-static uint8_t out_of_range(void) { return chance(40) ? ROLES : ROLES + below(256 - ROLES); }
+static uint32_t out_of_range(void) { return chance(40) ? ROLES : ROLES + below(256 - ROLES); }
 
 static void spoil_range(struct command *c)
 {
@@ -335,6 +335,21 @@ static void spoil_range(struct command *c)
         if (c->code == ADD_EDGE || c->code == CHANGE_EDGE) c->kind = chance(50) ? 0 : 4 + below(chance(50) ? 1 : 252);
         else c->actor = out_of_range();
     }
+}
+
+uint32_t *field_of(struct command *c, int field)
+{
+    uint32_t *const at[FIELDS] = {&c->code, &c->actor, &c->role, &c->junior, &c->kind};
+    return at[field];
+}
+
+/* A number that is used, and right but for its bits above the lowest 8. */
+static void spoil_width(struct command *c)
+{
+    int field = below(FIELDS);
+    if (field == KIND && c->code != ADD_EDGE && c->code != CHANGE_EDGE) field = JUNIOR;
+    if (field == JUNIOR && c->code < ADD_EDGE) field = ROLE;
+    *field_of(c, field) = wide(*field_of(c, field));
 }
 
 static void spoil_live(const struct view *v, struct command *c)
@@ -379,7 +394,7 @@ static void spoil_scope(const struct view *v, struct command *c)
 static void spoil_standing(const struct view *v, struct command *c)
 {
     const struct model *m = &v->board;
-    uint8_t turned = c->role;
+    uint32_t turned = c->role;
     switch (c->code) {
     case ADD_ROLE: c->role = pick_live(m); break;
     case ADD_EDGE: pick_edge(m, &c->role, &c->junior); break;
@@ -391,11 +406,13 @@ static void spoil_standing(const struct view *v, struct command *c)
     }
 }
 
+static uint32_t any_number(void) { return chance(30) ? wide(below(256)) : (uint32_t)below(256); }
+
 /* What a command doesn't use may hold anything, so every field starts as noise. */
 static void noise(struct command *c)
 {
-    uint64_t n = draw64();
-    *c = (struct command){n, n >> 8, n >> 16, n >> 24, n >> 32, 0, 0, 0, 0};
+    c->code = any_number(), c->actor = any_number(), c->role = any_number();
+    c->junior = any_number(), c->kind = any_number();
     c->a_seniors = draw64(), c->i_seniors = draw64(), c->a_juniors = draw64(), c->i_juniors = draw64();
     if (chance(50)) c->junior &= 63, c->kind &= 3;
     if (chance(30)) c->a_seniors = c->i_seniors = c->a_juniors = c->i_juniors = 0;
@@ -426,15 +443,17 @@ void draw_command(const struct view *v, struct command *c)
     }
     draw_of_code(v, codes[below(sizeof codes)], c);
     if (chance(65)) return;
-    switch (below(5)) {
+    switch (below(6)) {
     case 0: spoil_range(c); break;
     case 1: spoil_live(v, c); break;
     case 2: spoil_standing(v, c); break;
+    case 3: spoil_width(c); break;
     default: spoil_scope(v, c);
     }
     if (chance(20)) spoil_scope(v, c); /* two faults at once: the order counts */
     if (chance(10)) spoil_range(c);
     if (chance(10)) spoil_live(v, c);
+    if (chance(5)) spoil_width(c);
 }
 
 bool draw_refused(const struct view *v, int code, int number, struct command *c)

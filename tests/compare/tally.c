@@ -148,6 +148,38 @@ static void sizes(void)
     }
 }
 
+/* Numbers above 255: cut to 8 bits they would be others. */
+static void wide_numbers(void)
+{
+    static const char *const field[FIELDS] = {"code", "actor", "role", "junior", "kind"};
+    static const char *const argument[] = {"first", "second"};
+    char what[40];
+    heading("above 255 in a command", field, FIELDS);
+    for (int c = APPLY; c <= COMMAND; c++) {
+        printf("%-8s%-28s", call_name[c], "used, so 2");
+        for (int k = 0; k < FIELDS; k++) printf("%8ld", tally.wide_used[c][k]);
+        printf("\n%-8s%-28s", call_name[c], "not used, done");
+        for (int k = 0; k < FIELDS; k++) printf("%8ld", tally.wide_unused[c][k]);
+        printf("\n");
+    }
+    heading("above 255 in a question, so 2", argument, 2);
+    for (int c = DERIVES; c < CALL_COUNT; c++)
+        printf("%-36s%8ld%8ld\n", call_name[c], tally.wide_role[c][0], tally.wide_role[c][1]);
+    for (int c = APPLY; c <= COMMAND; c++)
+        for (int k = 0; k < FIELDS; k++) {
+            sprintf(what, "%s above 255, so 2", field[k]);
+            need(tally.wide_used[c][k], call_name[c], what);
+            sprintf(what, "%s above 255, done", field[k]);
+            if (k == JUNIOR || k == KIND) need(tally.wide_unused[c][k], call_name[c], what);
+            else never(tally.wide_unused[c][k], call_name[c], what);
+        }
+    for (int c = DERIVES; c < CALL_COUNT; c++)
+        for (int k = 0; k < (c <= SCOPE ? 2 : 1); k++) {
+            sprintf(what, "%s role above 255, so 2", argument[k]);
+            need(tally.wide_role[c][k], call_name[c], what);
+        }
+}
+
 int print_tally(long least)
 {
     enough = least;
@@ -160,6 +192,7 @@ int print_tally(long least)
         need(tally.unsound[way], "unsound board", unsound_way[way]);
     }
     questions();
+    wide_numbers();
     files();
     sizes();
     return wanting;

@@ -14,7 +14,7 @@ void open_file(struct opened *o, const uint8_t *file, size_t len)
 }
 
 /* The first refusal of a question about x and y: the file's own come first. */
-static bool refused(const struct opened *o, uint8_t x, uint8_t y, uint64_t none, uint64_t *reply)
+static bool refused(const struct opened *o, uint32_t x, uint32_t y, uint64_t none, uint64_t *reply)
 {
     const bool *live = o->view.board.live;
     if (o->number != 0) *reply = answer(o->number, IN_FILE, none);
@@ -24,40 +24,40 @@ static bool refused(const struct opened *o, uint8_t x, uint8_t y, uint64_t none,
     return true;
 }
 
-uint32_t answer_check(const struct opened *o)
+uint64_t answer_check(const struct opened *o)
 {
     return answer(o->number, o->number != 0 ? IN_FILE : ASKED, 0);
 }
 
-uint32_t answer_derives(const struct opened *o, uint8_t x, uint8_t y)
+uint64_t answer_derives(const struct opened *o, uint32_t x, uint32_t y)
 {
     uint64_t reply;
     if (refused(o, x, y, 0, &reply)) return reply;
     return answer(0, ASKED, o->view.derives[x][y]);
 }
 
-uint32_t answer_scope(const struct opened *o, uint8_t a, uint8_t r)
+uint64_t answer_scope(const struct opened *o, uint32_t a, uint32_t r)
 {
     uint64_t reply;
     if (refused(o, a, r, 0, &reply)) return reply;
     return answer(0, ASKED, in_scope(&o->view, a, r) + 2 * scope_count(&o->view, a));
 }
 
-uint32_t answer_manager(const struct opened *o, uint8_t r)
+uint64_t answer_manager(const struct opened *o, uint32_t r)
 {
     uint64_t reply;
     if (refused(o, r, r, NONE, &reply)) return reply;
     return answer(0, ASKED, line_manager(&o->view, r));
 }
 
-uint32_t answer_steps(const struct opened *o, uint8_t r)
+uint64_t answer_steps(const struct opened *o, uint32_t r)
 {
     uint64_t reply;
     if (refused(o, r, r, 0, &reply)) return reply;
     return answer(0, ASKED, steps(&o->view, r));
 }
 
-uint64_t answer_stretch(const struct opened *o, uint8_t role)
+uint64_t answer_stretch(const struct opened *o, uint32_t role)
 {
     uint64_t reply;
     if (refused(o, role, role, 0, &reply)) return reply;
@@ -71,7 +71,7 @@ uint64_t answer_stretch(const struct opened *o, uint8_t role)
     return answer(0, ASKED, start + (len << 16));
 }
 
-uint32_t answer_command(const struct opened *o, const struct command *c, uint8_t *out, size_t room)
+uint64_t answer_command(const struct opened *o, const struct command *c, uint8_t *out, size_t room)
 {
     static struct view after;
     size_t len;
@@ -91,35 +91,33 @@ static struct opened *opened(const uint8_t *file, size_t len)
     return &o;
 }
 
-uint8_t model_apply(struct board *b, NINE_NUMBERS)
+uint64_t model_apply(struct board *b, const struct command *c)
 {
     static struct view before, after;
-    struct command c = {code, actor, role, junior, kind, a_seniors, i_seniors, a_juniors, i_juniors};
     from_board(b, &before.board);
     look(&before);
-    uint8_t number = decide(&before, &c, &after);
+    uint8_t number = decide(&before, c, &after);
     if (number == 0) to_board(&after.board, b);
-    return number;
+    return answer(number, ASKED, 0);
 }
 
-uint32_t model_command(const uint8_t *file, size_t len, NINE_NUMBERS, uint8_t *out, size_t room)
+uint64_t model_command(const uint8_t *file, size_t len, const struct command *c, uint8_t *out, size_t room)
 {
-    struct command c = {code, actor, role, junior, kind, a_seniors, i_seniors, a_juniors, i_juniors};
-    return answer_command(opened(file, len), &c, out, room);
+    return answer_command(opened(file, len), c, out, room);
 }
 
-uint32_t model_check(const uint8_t *file, size_t len) { return answer_check(opened(file, len)); }
-uint32_t model_derives(const uint8_t *file, size_t len, uint8_t x, uint8_t y)
+uint64_t model_check(const uint8_t *file, size_t len) { return answer_check(opened(file, len)); }
+uint64_t model_derives(const uint8_t *file, size_t len, uint32_t x, uint32_t y)
 {
     return answer_derives(opened(file, len), x, y);
 }
-uint32_t model_scope(const uint8_t *file, size_t len, uint8_t a, uint8_t r)
+uint64_t model_scope(const uint8_t *file, size_t len, uint32_t a, uint32_t r)
 {
     return answer_scope(opened(file, len), a, r);
 }
-uint32_t model_manager(const uint8_t *file, size_t len, uint8_t r) { return answer_manager(opened(file, len), r); }
-uint32_t model_steps(const uint8_t *file, size_t len, uint8_t r) { return answer_steps(opened(file, len), r); }
-uint64_t model_stretch(const uint8_t *file, size_t len, uint8_t role)
+uint64_t model_manager(const uint8_t *file, size_t len, uint32_t r) { return answer_manager(opened(file, len), r); }
+uint64_t model_steps(const uint8_t *file, size_t len, uint32_t r) { return answer_steps(opened(file, len), r); }
+uint64_t model_stretch(const uint8_t *file, size_t len, uint32_t role)
 {
     return answer_stretch(opened(file, len), role);
 }

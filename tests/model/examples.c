@@ -82,16 +82,13 @@ static void walk(int r, int want)
 static struct board gives(const char *what, struct board b, struct command c, uint8_t want)
 {
     struct board after = b;
-    uint8_t out[FILE_MAX], number;
+    uint8_t out[FILE_MAX];
     memset(out, 0xee, sizeof out);
-    number = use->apply(&after, c.code, c.actor, c.role, c.junior, c.kind, c.a_seniors, c.i_seniors, c.a_juniors,
-                        c.i_juniors);
-    expect(what, number, want);
+    expect(what, use->apply(&after, &c), want);
     if (want != 0) expect(what, memcmp(&b, &after, sizeof b) != 0, false);
 
     about(&b);
-    uint32_t answer = use->command(file, len, c.code, c.actor, c.role, c.junior, c.kind, c.a_seniors, c.i_seniors,
-                                   c.a_juniors, c.i_juniors, out, sizeof out);
+    uint64_t answer = use->command(file, len, &c, out, sizeof out);
     about(&after);
     expect(what, answer, want != 0 ? want : (uint32_t)len << 16);
     if (want == 0) expect(what, memcmp(out, file, len) != 0, false);

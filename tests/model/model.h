@@ -24,11 +24,6 @@ struct view {
     bool reaches[ROLES][ROLES], derives[ROLES][ROLES];
 };
 
-struct command {
-    uint8_t code, actor, role, junior, kind; /* role is also the senior */
-    uint64_t a_seniors, i_seniors, a_juniors, i_juniors;
-};
-
 /* model.c */
 bool in(uint64_t set, int role);
 void from_board(const struct board *b, struct model *m);
@@ -62,13 +57,13 @@ struct opened {
     struct view view;
 };
 void open_file(struct opened *o, const uint8_t *file, size_t len);
-uint32_t answer_check(const struct opened *o);
-uint32_t answer_derives(const struct opened *o, uint8_t x, uint8_t y);
-uint32_t answer_scope(const struct opened *o, uint8_t a, uint8_t r);
-uint32_t answer_manager(const struct opened *o, uint8_t r);
-uint32_t answer_steps(const struct opened *o, uint8_t r);
-uint64_t answer_stretch(const struct opened *o, uint8_t role);
-uint32_t answer_command(const struct opened *o, const struct command *c, uint8_t *out, size_t room);
+uint64_t answer_check(const struct opened *o);
+uint64_t answer_derives(const struct opened *o, uint32_t x, uint32_t y);
+uint64_t answer_scope(const struct opened *o, uint32_t a, uint32_t r);
+uint64_t answer_manager(const struct opened *o, uint32_t r);
+uint64_t answer_steps(const struct opened *o, uint32_t r);
+uint64_t answer_stretch(const struct opened *o, uint32_t role);
+uint64_t answer_command(const struct opened *o, const struct command *c, uint8_t *out, size_t room);
 
 /* examples.c: the scope document's examples; prints and counts those that go wrong */
 int wrong_examples(const char *whose, const struct calls *of);

@@ -125,11 +125,6 @@ static bool sound(const struct board *b, struct weighed *w)
 
 /* ---- commands */
 
-struct command {
-    uint8_t code, actor, role, junior, kind;
-    set a_seniors, i_seniors, a_juniors, i_juniors;
-};
-
 static bool allowed(const struct weighed *w, const struct command *c)
 {
     switch (c->code) {
@@ -197,14 +192,13 @@ static uint8_t decide(struct board *b, struct weighed *w, const struct command *
     return all_managed(b, w) ? 0 : 9;
 }
 
-uint8_t plain_apply(struct board *b, NINE_NUMBERS)
+uint64_t plain_apply(struct board *b, const struct command *c)
 {
-    struct command c = {code, actor, role, junior, kind, a_seniors, i_seniors, a_juniors, i_juniors};
     struct weighed w;
     struct board next;
     if (!sound(b, &w)) return 1;
     next = *b;
-    uint8_t number = decide(&next, &w, &c);
+    uint8_t number = decide(&next, &w, c);
     if (number == 0) *b = next;
     return number;
 }
@@ -264,10 +258,10 @@ static size_t write_file(const struct board *b, uint8_t *out, size_t room)
 
 /* ---- answers */
 
-static uint32_t answer(uint8_t number, unsigned place, uint32_t value) { return number | place << 8 | value << 16; }
+static uint64_t answer(uint8_t number, unsigned place, uint64_t value) { return number | place << 8 | value << 16; }
 
 /* A board read from a file and asked about x and y: 0, or the whole refusal with no value. */
-static uint32_t ask(const uint8_t *file, size_t len, struct board *b, struct weighed *w, uint8_t x, uint8_t y)
+static uint64_t ask(const uint8_t *file, size_t len, struct board *b, struct weighed *w, uint32_t x, uint32_t y)
 {
     uint8_t number = read_file(file, len, b, w);
     if (number != 0) return answer(number, IN_FILE, 0);
@@ -283,54 +277,54 @@ static unsigned manager(const struct weighed *w, unsigned r)
     return BOARD_NO_MANAGER;
 }
 
-uint32_t plain_check(const uint8_t *file, size_t len)
+uint64_t plain_check(const uint8_t *file, size_t len)
 {
     struct board b;
     struct weighed w;
     return ask(file, len, &b, &w, 0, 0);
 }
 
-uint32_t plain_derives(const uint8_t *file, size_t len, uint8_t x, uint8_t y)
+uint64_t plain_derives(const uint8_t *file, size_t len, uint32_t x, uint32_t y)
 {
     struct board b;
     struct weighed w;
-    uint32_t refusal = ask(file, len, &b, &w, x, y);
+    uint64_t refusal = ask(file, len, &b, &w, x, y);
     return refusal != 0 ? refusal : answer(0, ASKED, has(w.down[x], y));
 }
 
-uint32_t plain_scope(const uint8_t *file, size_t len, uint8_t a, uint8_t r)
+uint64_t plain_scope(const uint8_t *file, size_t len, uint32_t a, uint32_t r)
 {
     struct board b;
     struct weighed w;
-    uint32_t refusal = ask(file, len, &b, &w, a, r), count = 0;
+    uint64_t refusal = ask(file, len, &b, &w, a, r), count = 0;
     if (refusal != 0) return refusal;
     EACH(x, w.down[a]) count += in_scope(&w, a, x);
     return answer(0, ASKED, in_scope(&w, a, r) | count << 1);
 }
 
-uint32_t plain_manager(const uint8_t *file, size_t len, uint8_t r)
+uint64_t plain_manager(const uint8_t *file, size_t len, uint32_t r)
 {
     struct board b;
     struct weighed w;
-    uint32_t refusal = ask(file, len, &b, &w, r, r);
+    uint64_t refusal = ask(file, len, &b, &w, r, r);
     return refusal != 0 ? refusal | BOARD_NO_MANAGER << 16 : answer(0, ASKED, manager(&w, r));
 }
 
-uint32_t plain_steps(const uint8_t *file, size_t len, uint8_t r)
+uint64_t plain_steps(const uint8_t *file, size_t len, uint32_t r)
 {
     struct board b;
     struct weighed w;
-    uint32_t refusal = ask(file, len, &b, &w, r, r), n = 0;
+    uint64_t refusal = ask(file, len, &b, &w, r, r), n = 0;
     if (refusal != 0) return refusal;
     for (unsigned x = r; x != 0; x = manager(&w, x)) n++;
     return answer(0, ASKED, n);
 }
 
-uint64_t plain_stretch(const uint8_t *file, size_t len, uint8_t role)
+uint64_t plain_stretch(const uint8_t *file, size_t len, uint32_t role)
 {
     struct board b;
     struct weighed w;
-    uint32_t refusal = ask(file, len, &b, &w, role, role);
+    uint64_t refusal = ask(file, len, &b, &w, role, role);
     if (refusal != 0) return refusal;
     uint64_t start = size(b.live), count = size(b.i[role] | b.a[role]);
     if (count == 0) return 0;
@@ -338,15 +332,14 @@ uint64_t plain_stretch(const uint8_t *file, size_t len, uint8_t role)
     return start << 16 | 3 * count << 32;
 }
 
-uint32_t plain_command(const uint8_t *file, size_t len, NINE_NUMBERS, uint8_t *out, size_t room)
+uint64_t plain_command(const uint8_t *file, size_t len, const struct command *c, uint8_t *out, size_t room)
 {
-    struct command c = {code, actor, role, junior, kind, a_seniors, i_seniors, a_juniors, i_juniors};
     struct board b;
     struct weighed w;
     uint8_t number = read_file(file, len, &b, &w);
     if (number != 0) return answer(number, IN_FILE, 0);
-    number = decide(&b, &w, &c);
+    number = decide(&b, &w, c);
     if (number != 0) return answer(number, ASKED, 0);
-    uint32_t written = write_file(&b, out, room);
+    size_t written = write_file(&b, out, room);
     return written != 0 ? answer(0, ASKED, written) : answer(12, IN_WRITING, 0);
 }

@@ -10,8 +10,8 @@ use lib.Dec.{eqb, lit<}
 use lib.ListN.{set, length, length-set, List·getD-eq-default}
 use lib.Seq.{getD-set-same, getD-set-other, ext-getD}
 use borrow.Author.Tests.{eqb-true, eqb-false, ne-eqb}
-use Rattle.sets.specs.Sets.{bit, _∈_, _⊆_, same?, setOf, NoRole}
-use Rattle.sets.proofs.Bools.{true-or-false, false-no, lt-or-ge}
+use Rattle.sets.specs.Sets.{bit, _isIn_, _areIn_, same?, setOf, NoRole}
+use Rattle.sets.proofs.Bools.{true-or-false, and-left, and-right, false-no, lt-or-ge}
 use Rattle.sets.proofs.Digits.{bit-zero}
 use Rattle.sets.proofs.Laws.{same-is, same-out, same-eq, same-self, setOf-fits, bit-setOf, is-setOf, bit-lt}
 use Rattle.sets.proofs.Members.{Taken, taken-part}
@@ -61,7 +61,7 @@ put-out o false p e = and-true o
 
 pub record Entering (t : List ℕ) (seniors junior : ℕ) (part : Bool) (n : List ℕ) (rest : ℕ) : Type 0 where
   pub whole : IsTable n
-  pub few : rest ⊆ seniors
+  pub few : rest areIn seniors
   pub entries : (x y : ℕ) → bit (row n x) y ≡ cond ((bit seniors x && not (bit rest x)) && same? junior y) part (bit (row t x) y)
 
 none-yet : (s m p o : Bool) → o ≡ cond ((s && not s) && m) p o
@@ -152,7 +152,7 @@ module _ (c : Command) (s j : ℕ) (p : Bool) (t : List ℕ) where
       (λ g. subst (λ (k : ℕ). k < 2 ^ 64) (sym (List·getD-eq-default (tableAfter c s j p t) 0 (omega (arith, table-length)))) (lit< tt))
       (lt-or-ge x 64)
 
-  pub in-table : (x y : ℕ) → y ∈ row (tableAfter c s j p t) x → (x < 64) × (y < 64) × (entry c s j p (bit (row t x) y) x y ≡ true)
+  pub in-table : (x y : ℕ) → y isIn row (tableAfter c s j p t) x → (x < 64) × (y < 64) × (entry c s j p (bit (row t x) y) x y ≡ true)
   in-table x y e =
       let l : x < 64 = ⊎-elim (λ m. m)
       (λ g. absurd (false-no (bit-zero y) (ap (λ (k : ℕ). bit k y) (sym (List·getD-eq-default (tableAfter c s j p t) 0 (omega (arith, table-length)))) ∙ e)))
@@ -261,6 +261,15 @@ module _ (c : Command) (s j : ℕ) (p : Bool) (t : List ℕ) where
 
     pub changes : c .code ≡ 5 → (r : List ℕ) → Entered t k (c .junior) p r → r ≡ tableAfter c s j p t
     changes e r h = table-is c s j p t r (h .whole) (λ x y l m. paired p r h x y l m ∙ sym (entry-5 c s j p (bit (row t x) y) x y e))
+
+  -- a change to the part that the edge has changes nothing
+  pub idles : c .code ≡ 5 → bit (row t (c .role)) (c .junior) ≡ p → IsTable t → t ≡ tableAfter c s j p t
+  idles e h whole = table-is c s j p t t whole (λ x y l m. here x y (pair c x y) refl ∙ sym (entry-5 c s j p (bit (row t x) y) x y e))
+    where
+      here : (x y : ℕ) (q : Bool) → pair c x y ≡ q → bit (row t x) y ≡ cond q p (bit (row t x) y)
+      here x y true d =
+          rw (eqb-true x (c .role) (and-left (eqb x (c .role)) (eqb y (c .junior)) d), eqb-true y (c .junior) (and-right (eqb x (c .role)) (eqb y (c .junior)) d)) h
+      here x y false d = refl
 
   pub keeps : c .code ≢ 1 → c .code ≢ 2 → (c .code ≡ 3 → p ≡ false) → c .code ≢ 4 → c .code ≢ 5 → IsTable t → t ≡ tableAfter c s j p t
   keeps e1 e2 e3 e4 e5 whole = table-is c s j p t t whole

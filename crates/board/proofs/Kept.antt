@@ -1,5 +1,5 @@
 -- A command that is done leaves a sound board. Assumes nothing.
-use mathlib.Core.Path.{_≡_, refl, sym, _∙_, subst}
+use mathlib.Core.Path.{_≡_, refl, sym, ap, _∙_}
 use mathlib.Core.Bool.{Bool, true, false, cond, not, _&&_, _||_, or-true}
 use mathlib.Core.Logic.{inl, ⊎-elim, _≢_}
 use mathlib.Core.List.{List}
@@ -7,11 +7,11 @@ use Prim.Native.Nat.{ℕ, _≤_, _<_}
 use native.Mathlib.Omega.{arith}
 use lib.Dec.{eqb, lit<}
 use borrow.Author.Tests.{eqb-true, eqb-false, eq-eqb, ne-eqb, le-leb, not-true}
-use Rattle.sets.specs.Sets.{bit, _∈_}
+use Rattle.sets.specs.Sets.{bit, _isIn_}
 use Rattle.sets.proofs.Bools.{true-or-false, or-cases, or-left, or-right, and-left, and-right, false-no, lt-or-ge}
 use Rattle.sets.proofs.Laws.{setOf-fits, bit-setOf}
-use Rattle.hierarchy.specs.Tables.{Live, Shaped, row, kind}
-use Rattle.hierarchy.specs.Words.{Joined, Sound}
+use Rattle.hierarchy.specs.Tables.{Live, Shaped, row, kindOf, kind}
+use Rattle.hierarchy.specs.Words.{Scope, Joined, Sound}
 use Rattle.hierarchy.specs.First.{First}
 use Rattle.hierarchy.proofs.Admin.{admin-reaches}
 use Rattle.hierarchy.proofs.Decide.{sound-dec, managed-dec}
@@ -19,11 +19,11 @@ use Rattle.hierarchy.proofs.Derive.{edge-entry, i-entry, a-entry}
 use Rattle.hierarchy.proofs.Theorems.{no-senior}
 use Rattle.board.specs.Boards.{tablesOf}
 use Rattle.board.specs.Effects.{hasI, hasA, lives, pair, entry, after}
-use Rattle.board.specs.Commands.{asSenior, asJunior, needed, strictly, Malformed, Malformed.no-code, Missing, InScope, before, refusals}
+use Rattle.board.specs.Commands.{asSenior, asJunior, needed, strictly, Malformed, Malformed.no-code, Missing, InScope, edgeKind, refusals}
 use Rattle.board.specs.declared.Board.{Board}
 use Rattle.board.specs.declared.Command.{Command}
 use Rattle.board.proofs.Rules.{stable, first-done}
-use Rattle.board.proofs.Edits.{table-length, table-fits, in-table, entry-1, entry-2, entry-other}
+use Rattle.board.proofs.Edits.{table-length, table-fits, in-table, entry-1, entry-2, entry-other, idles, living, board-is}
 
 -- ---- the shape, by construction
 
@@ -72,17 +72,17 @@ module _ (c : Command) (x : ℕ) where
 
 -- ---- each entry joins roles that live afterwards
 
-module _ (b : Board) (c : Command) (formed : Malformed c → ⊥) (present : (x : ℕ) → needed c x ≡ true → x ∈ b .live) where
+module _ (b : Board) (c : Command) (formed : Malformed c → ⊥) (present : (x : ℕ) → needed c x ≡ true → x isIn b .live) where
   abbrev Alive : ℕ → Type 0
   Alive x = lives c (bit (b .live) x) x ≡ true
 
-  alive : (x : ℕ) → c .code ≢ 2 → x ∈ b .live → Alive x
+  alive : (x : ℕ) → c .code ≢ 2 → x isIn b .live → Alive x
   alive x n e = lives-kept c (bit (b .live) x) x n e
 
   -- one table, with the sets that command 1 names for it
   module _ (s j : ℕ) (p : Bool) (t : List ℕ)
-      (seniors : (x : ℕ) → x ∈ s → asSenior c x ≡ true) (juniors : (x : ℕ) → x ∈ j → asJunior c x ≡ true)
-      (joined : (x y : ℕ) → y ∈ row t x → (x ∈ b .live) × (y ∈ b .live)) (x y : ℕ) (here : entry c s j p (bit (row t x) y) x y ≡ true) where
+      (seniors : (x : ℕ) → x isIn s → asSenior c x ≡ true) (juniors : (x : ℕ) → x isIn j → asJunior c x ≡ true)
+      (joined : (x y : ℕ) → y isIn row t x → (x isIn b .live) × (y isIn b .live)) (x y : ℕ) (here : entry c s j p (bit (row t x) y) x y ≡ true) where
     abbrev o : Bool
     o = bit (row t x) y
 
@@ -131,10 +131,10 @@ live-after : (b : Board) (c : Command) (x : ℕ) → x < 64 → lives c (bit (b 
 unfolding after
 live-after b c x l e = bit-setOf _ x l ∙ e
 
-joined-after : (b : Board) (c : Command) → Joined (tablesOf b) → (Malformed c → ⊥) → (Missing b c → ⊥) → Joined (tablesOf (after b c))
+pub joined-after : (b : Board) (c : Command) → Joined (tablesOf b) → (Malformed c → ⊥) → (Missing b c → ⊥) → Joined (tablesOf (after b c))
 unfolding after
 joined-after b c joined formed missing x y h =
-    let present : (z : ℕ) → needed c z ≡ true → z ∈ b .live =
+    let present : (z : ℕ) → needed c z ≡ true → z isIn b .live =
     λ z n. ⊎-elim (λ e. e) (λ e. absurd (missing record { who = z; is-needed = n; absent = e })) (true-or-false (bit (b .live) z)) in ⊎-elim
     (λ e.
     let w = in-table c _ _ _ (b .i) x y e in
@@ -150,22 +150,15 @@ joined-after b c joined formed missing x y h =
     (live-after b c x (w .0) (l .0), live-after b c y (w .1) (l .1)))
     (edge-entry (tablesOf (after b c)) x y .0 h)
 
--- past the refusals on the board before, the board afterwards has its shape, and its entries join live roles
-pub firm-after : (b : Board) (c : Command) (next : Board) (m : ℕ) → next ≡ after b c → m ≡ 0 → First (before b c) m → Shaped (tablesOf next) × Joined (tablesOf next)
-firm-after b c next m is z f =
-    let rows = first-done (before b c) refl (subst (First (before b c)) z f) in
-    let sound = stable (sound-dec (tablesOf b)) (rows .0) in
-    subst (λ (k : Board). Shaped (tablesOf k) × Joined (tablesOf k)) (sym is) (shaped-after b c, joined-after b c (sound .joined) (rows .1 .0) (rows .1 .1 .0))
-
 strictly-removed : (c : Command) (x : ℕ) → c .code ≡ 2 → x ≡ c .role → strictly c x ≡ true
 unfolding strictly
 strictly-removed c x e q = rw (e, eq-eqb x (c .role) q)
 
 -- role 0 is nobody's junior, so it is in nobody's strict scope, and command 2 on it is refused
-root-after : (b : Board) (c : Command) → Sound (tablesOf b) → ((InScope b c → ⊥) → ⊥) → Live (tablesOf (after b c)) 0
+root-after : (b : Board) (c : Command) → Sound (tablesOf b) → ((InScope (Scope (tablesOf b)) c → ⊥) → ⊥) → Live (tablesOf (after b c)) 0
 root-after b c sound scoped = live-after b c 0 (lit< tt) (⊎-elim
     (λ k. lives-left c (bit (b .live) 0) 0 (eqb-true (c .code) 2 k) (sound .root)
-    (λ q. scoped (λ s. no-senior sound (c .actor) (admin-reaches (s .strict 0 (strictly-removed c 0 (eqb-true (c .code) 2 k) q))))))
+    (λ q. scoped (λ s. let m = s .strict 0 (strictly-removed c 0 (eqb-true (c .code) 2 k) q) in no-senior sound (c .actor) (admin-reaches (record { scope = m .0; strict = m .1 })))))
     (λ k. lives-kept c (bit (b .live) 0) 0 (eqb-false (c .code) 2 k) (sound .root))
     (true-or-false (eqb (c .code) 2)))
 
@@ -181,3 +174,28 @@ sound-after b c f =
       root = root-after b c sound (late .0);
       managed = stable (managed-dec (shaped-after b c)) (late .1 .1 .1 .0);
     }
+
+-- ---- changing an edge to the kind it has
+
+i-part : (p q : Bool) → p ≡ hasI (kindOf p q)
+i-part true true = refl
+i-part true false = refl
+i-part false true = refl
+i-part false false = refl
+
+a-part : (p q : Bool) → q ≡ hasA (kindOf p q)
+a-part true true = refl
+a-part true false = refl
+a-part false true = refl
+a-part false false = refl
+
+-- It leaves the very board.
+pub idle-change : (b : Board) (c : Command) → Shaped (tablesOf b) → c .code ≡ 5 → edgeKind b c ≡ c .kind → after b c ≡ b
+unfolding kind
+idle-change b c shaped e same =
+    let p = bit (row (b .i) (c .role)) (c .junior) in
+    let q = bit (row (b .a) (c .role)) (c .junior) in
+    sym (board-is b c (b .live) (b .i) (b .a) (hasI (c .kind)) (hasA (c .kind))
+    (living c (b .live) (b .live) (shaped .live-fits) (λ k. absurd (omega arith)) (λ k. absurd (omega arith)) (λ x. refl))
+    refl (idles c _ _ _ (b .i) e (i-part p q ∙ ap hasI same) record { rows = shaped .i-rows; fits = shaped .i-fits })
+    refl (idles c _ _ _ (b .a) e (a-part p q ∙ ap hasA same) record { rows = shaped .a-rows; fits = shaped .a-fits }))

@@ -1,7 +1,8 @@
--- What the proofs of the functions stand on, and two theorems on the contracts: Kept (a done command leaves a sound board) and
--- Settled (a contract allows one answer).
+-- What the proofs of the functions stand on, and three theorems on the contracts: Kept (a done command leaves a sound board), Settled
+-- (a contract allows one answer) and Viewing (what is read off a sound board's own views is document 01's answer).
 pub mod Kept
 pub mod Settled
+pub mod Viewing
 pub mod Founding
 pub mod Rules
 pub mod Edits

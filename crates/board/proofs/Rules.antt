@@ -1,7 +1,7 @@
 -- Refusal tables: what done says, and two tables in a row. Assumes nothing.
-use mathlib.Core.Path.{_≡_}
+use mathlib.Core.Path.{_≡_, _∙_}
 use mathlib.Core.Bool.{Bool, true, _&&_}
-use mathlib.Core.Logic.{inl, inr, _≢_}
+use mathlib.Core.Logic.{inl, inr, _≢_, _↔_}
 use mathlib.Core.List.{List, [], _∷_, _++_}
 use Prim.Native.Nat.{ℕ}
 use native.Mathlib.Omega.{arith}
@@ -30,6 +30,26 @@ unfolding First
 first-done [] e f = tt
 first-done (rule ∷ rest) e (inl p) = absurd (omega (arith, p .1, ltb-true 0 (rule .0) (and-left (ltb 0 (rule .0)) (numbered rest) e)))
 first-done (rule ∷ rest) e (inr p) = (p .0, first-done rest (and-right (ltb 0 (rule .0)) (numbered rest) e) (p .1))
+
+-- two tables with the same numbers, whose conditions agree row by row
+abbrev pub Alike : List (ℕ × Type 0) → List (ℕ × Type 0) → Type 0
+Alike [] [] = Unit {0}
+Alike [] (y ∷ ys) = ⊥
+Alike (x ∷ xs) [] = ⊥
+Alike (x ∷ xs) (y ∷ ys) = (x .0 ≡ y .0) × (x .1 ↔ y .1) × Alike xs ys
+
+-- have the same answer, and so do two in a row, where the second agree once the first are passed
+pub first-alike : (xs ys us vs : List (ℕ × Type 0)) (n : ℕ) → Alike xs ys → (Passed xs → Alike us vs) → First (xs ++ us) n → First (ys ++ vs) n
+unfolding First
+first-alike [] [] [] [] n a f h = h
+first-alike [] [] [] (v ∷ vs) n a f h = absurd (f tt)
+first-alike [] [] (u ∷ us) [] n a f h = absurd (f tt)
+first-alike [] [] (u ∷ us) (v ∷ vs) n a f (inl p) = let w = f tt in inl (w .1 .0 (p .0), p .1 ∙ w .0)
+first-alike [] [] (u ∷ us) (v ∷ vs) n a f (inr p) = let w = f tt in inr (λ k. p .0 (w .1 .1 k), first-alike [] [] us vs n tt (λ _. w .2) (p .1))
+first-alike [] (y ∷ ys) us vs n a f h = absurd a
+first-alike (x ∷ xs) [] us vs n a f h = absurd a
+first-alike (x ∷ xs) (y ∷ ys) us vs n a f (inl p) = inl (a .1 .0 (p .0), p .1 ∙ a .0)
+first-alike (x ∷ xs) (y ∷ ys) us vs n a f (inr p) = inr (λ k. p .0 (a .1 .1 k), first-alike xs ys us vs n (a .2) (λ q. f (p .0, q)) (p .1))
 
 -- a refusal of the first table is one of both
 pub first-refused : (xs ys : List (ℕ × Type 0)) (n : ℕ) → n ≢ 0 → First xs n → First (xs ++ ys) n

@@ -2,19 +2,19 @@
 use mathlib.Core.Path.{_≡_, refl, sym, ap, _∙_, subst}
 use mathlib.Core.Bool.{Bool, true, false, not, _&&_, _||_, or-false, or-comm}
 use mathlib.Core.Logic.{_⊎_, inl, inr, ⊎-elim, _≢_, _↔_, dite, Iff·trans, Iff·rfl}
-use mathlib.Core.List.{List, _∷_}
+use mathlib.Core.List.{List, _∷_, _++_}
 use Prim.Native.Nat.{ℕ, _^_, _≤_, _<_}
 use native.Mathlib.Decide.{ℕ-discrete}
 use native.Mathlib.Omega.{arith}
 use lib.Count.{trailingZeros}
 use lib.Dec.{eqb, leb}
 use borrow.Author.Tests.{eqb-true, eqb-false, eq-eqb, ne-eqb, leb-true, le-leb, not-true}
-use Rattle.sets.specs.Sets.{bit, _∈_, _⊆_, same?}
+use Rattle.sets.specs.Sets.{bit, _isIn_, _areIn_, same?}
 use Rattle.sets.proofs.Bools.{true-or-false, or-cases, or-left, or-right, and-left, and-right, and-both, false-no, lt-or-ge, not-so}
 use Rattle.sets.proofs.Digits.{bit-zero}
 use Rattle.sets.proofs.Laws.{same-is, same-eq, bit-lowest}
-use Rattle.hierarchy.specs.Tables.{row, kind}
-use Rattle.hierarchy.specs.Words.{Scope, Sound}
+use Rattle.hierarchy.specs.Tables.{Tables, row, kind}
+use Rattle.hierarchy.specs.Words.{Sound}
 use Rattle.hierarchy.specs.First.{First}
 use Rattle.hierarchy.specs.Views.{AreViews}
 use Rattle.hierarchy.proofs.Checks.{and-is, or-is, not-is, eq-is}
@@ -22,10 +22,10 @@ use Rattle.hierarchy.proofs.Derive.{edge-entry}
 use Rattle.hierarchy.proofs.FirstLaws.{hit, pass, none}
 use Rattle.hierarchy.proofs.ViewLaws.{admin-by}
 use Rattle.board.specs.Boards.{tablesOf}
-use Rattle.board.specs.Commands.{NamesKind, Malformed, asSenior, asJunior, needed, Missing, edgeKind, Standing, NoEdge, scoped, strictly, InScope, Outside, before, afterwards, refusals, Decided}
+use Rattle.board.specs.Commands.{NamesKind, Malformed, asSenior, asJunior, needed, Missing, edgeKind, Standing, NoEdge, scoped, strictly, InScope, Outside, before, afterwards, DecidedBy, Decided}
 use Rattle.board.specs.Commands.{Malformed.no-code, Malformed.no-actor, Malformed.no-role, Malformed.no-junior, Malformed.no-kind, Standing.role, Standing.edge}
 use Rattle.board.specs.Effects.{after}
-use Rattle.board.specs.Looks.{WithinScope, OutsideBy}
+use Rattle.board.specs.Looks.{OutsideBy}
 use Rattle.board.specs.declared.Board.{Board}
 use Rattle.board.specs.declared.Command.{Command}
 use Rattle.board.proofs.Rules.{stable, first-done, first-refused, first-next}
@@ -124,10 +124,10 @@ module _ (c : Command) (formed : Malformed c → ⊥) where
         (true-or-false (eqb (c .code) 1))
 
 -- a set that is not 0 has a member
-pub some-member : (d : ℕ) → d < 2 ^ 64 → (not (eqb d 0) ≡ true) ↔ ((x : ℕ) × (x ∈ d))
+pub some-member : (d : ℕ) → d < 2 ^ 64 → (not (eqb d 0) ≡ true) ↔ ((x : ℕ) × (x isIn d))
 some-member d h = (
   λ e. (trailingZeros 64 d, bit-lowest 64 d (let n = eqb-false d 0 (not-true (eqb d 0) e) in omega arith) h),
-  λ w. ap not (ne-eqb d 0 (λ z. false-no (bit-zero (w .0)) (subst (λ (k : ℕ). w .0 ∈ k) z (w .1)))),
+  λ w. ap not (ne-eqb d 0 (λ z. false-no (bit-zero (w .0)) (subst (λ (k : ℕ). w .0 isIn k) z (w .1)))),
 )
 
 -- the members of the first that the second lacks
@@ -145,10 +145,10 @@ missing-is c n d live h hn hd = Iff·trans (some-member d h) (
 
 -- the scope condition, by the sets of those asked for
 pub within-is : (scope : ℕ) (c : Command) (u s w : ℕ) → (Malformed c → ⊥) → ((x : ℕ) → bit u x ≡ scoped c x) → ((x : ℕ) → bit s x ≡ strictly c x)
-    → ((x : ℕ) → bit w x ≡ (bit scope x && not (same? (c .actor) x))) → u ⊆ scope → (s ⊆ w) ↔ WithinScope scope c
+    → ((x : ℕ) → bit w x ≡ (bit scope x && not (same? (c .actor) x))) → u areIn scope → (s areIn w) ↔ InScope (λ a x. x isIn scope) c
 within-is scope c u s w formed hu hs hw p = (
   λ q. record {
-    inside = λ x e. p x (hu x ∙ e);
+    scope = λ x e. p x (hu x ∙ e);
     strict = λ x e.
         let m = sym (hw x) ∙ q x (hs x ∙ e) in (
           and-left (bit scope x) (not (same? (c .actor) x)) m,
@@ -158,6 +158,13 @@ within-is scope c u s w formed hu hs hw p = (
   λ r x e.
       let m = r .strict x (sym (hs x) ∙ e) in
       hw x ∙ and-both (bit scope x) (not (same? (c .actor) x)) (m .0) (ap not (not-so (same? (c .actor) x) (λ k. m .1 (sym (same-eq (c .actor) x k))))),
+)
+
+-- the scope condition by two relations that agree on the actor
+pub in-scope-alike : {In In′ : ℕ → ℕ → Type 0} (c : Command) → ((x : ℕ) → In (c .actor) x ↔ In′ (c .actor) x) → InScope In c ↔ InScope In′ c
+in-scope-alike c h = (
+  λ s. record { scope = λ x e. h x .0 (s .scope x e); strict = λ x e. let m = s .strict x e in (h x .0 (m .0), m .1) },
+  λ s. record { scope = λ x e. h x .1 (s .scope x e); strict = λ x e. let m = s .strict x e in (h x .1 (m .0), m .1) },
 )
 
 -- ---- rows 4 and 5
@@ -192,7 +199,7 @@ module _ (b : Board) (c : Command) where
       rows,
     ))
       where
-        rows : Standing b c → ((c .code ≡ 1) × (c .role ∈ b .live)) ⊎ ((c .code ≡ 3) × (edgeKind b c ≢ 0))
+        rows : Standing b c → ((c .code ≡ 1) × (c .role isIn b .live)) ⊎ ((c .code ≡ 3) × (edgeKind b c ≢ 0))
         rows (role e m) = inl (e, m)
         rows (edge e n) = inr (e, n)
 
@@ -202,67 +209,57 @@ module _ (b : Board) (c : Command) where
       λ n. (n .names, λ k. k (n .none)),
     ))
 
-  pub scope-row : {scope : ℕ} → ((x : ℕ) → (x ∈ scope) ↔ Scope (tablesOf b) (c .actor) x) → WithinScope scope c ↔ InScope b c
-  scope-row h = (
-    λ w. record { scope = λ x e. h x .0 (w .inside x e); strict = λ x e. let m = w .strict x e in record { scope = h x .0 (m .0); strict = m .1 } },
-    λ s. record { inside = λ x e. h x .1 (s .scope x e); strict = λ x e. let m = s .strict x e in (h x .1 (m .scope), m .strict) },
-  )
-
   pub outside-row : {down up : List ℕ} → AreViews (tablesOf b) down up → OutsideBy down up c ↔ Outside b c
   outside-row v = (λ o. record { adds = o .adds; outside = λ a. o .outside (admin-by v .1 a) }, λ o. record { adds = o .adds; outside = λ a. o .outside (admin-by v .0 a) })
 
 -- ---- the first half of the table
 
-pub refused-1 : (b : Board) (c : Command) → (Sound (tablesOf b) → ⊥) → First (before b c) 1
-refused-1 b c n = hit _ _ _ n
-
-module _ (b : Board) (c : Command) (sound : Sound (tablesOf b)) where
-  past-1 : (n : ℕ) (rest : List (ℕ × Type 0)) → First rest n → First ((1, (Sound (tablesOf b) → ⊥)) ∷ rest) n
-  past-1 n rest f = pass _ _ rest _ (λ k. k sound) f
-
-  pub refused-2 : Malformed c → First (before b c) 2
-  refused-2 m = past-1 _ _ (hit _ _ _ m)
+module _ (In : ℕ → ℕ → Type 0) (b : Board) (c : Command) where
+  pub refused-2 : Malformed c → First (before In b c) 2
+  refused-2 m = hit _ _ _ m
 
   module _ (formed : Malformed c → ⊥) where
-    pub refused-3 : Missing b c → First (before b c) 3
-    refused-3 m = past-1 _ _ (pass _ _ _ _ formed (hit _ _ _ m))
+    pub refused-3 : Missing b c → First (before In b c) 3
+    refused-3 m = pass _ _ _ _ formed (hit _ _ _ m)
 
     module _ (present : Missing b c → ⊥) where
-      pub refused-4 : Standing b c → First (before b c) 4
-      refused-4 s = past-1 _ _ (pass _ _ _ _ formed (pass _ _ _ _ present (hit _ _ _ s)))
+      pub refused-4 : Standing b c → First (before In b c) 4
+      refused-4 s = pass _ _ _ _ formed (pass _ _ _ _ present (hit _ _ _ s))
 
       module _ (free : Standing b c → ⊥) where
-        pub refused-5 : NoEdge b c → First (before b c) 5
-        refused-5 n = past-1 _ _ (pass _ _ _ _ formed (pass _ _ _ _ present (pass _ _ _ _ free (hit _ _ _ n))))
+        pub refused-5 : NoEdge b c → First (before In b c) 5
+        refused-5 n = pass _ _ _ _ formed (pass _ _ _ _ present (pass _ _ _ _ free (hit _ _ _ n)))
 
         module _ (there : NoEdge b c → ⊥) where
-          past-5 : (n : ℕ) (rest : List (ℕ × Type 0)) → First rest n
-              → First ((1, (Sound (tablesOf b) → ⊥)) ∷ (2, Malformed c) ∷ (3, Missing b c) ∷ (4, Standing b c) ∷ (5, NoEdge b c) ∷ rest) n
-          past-5 n rest f = past-1 _ _ (pass _ _ _ _ formed (pass _ _ _ _ present (pass _ _ _ _ free (pass _ _ rest _ there f))))
+          past-5 : (n : ℕ) (rest : List (ℕ × Type 0)) → First rest n → First ((2, Malformed c) ∷ (3, Missing b c) ∷ (4, Standing b c) ∷ (5, NoEdge b c) ∷ rest) n
+          past-5 n rest f = pass _ _ _ _ formed (pass _ _ _ _ present (pass _ _ _ _ free (pass _ _ rest _ there f)))
 
-          pub refused-6 : (InScope b c → ⊥) → First (before b c) 6
+          pub refused-6 : (InScope In c → ⊥) → First (before In b c) 6
           refused-6 n = past-5 _ _ (hit _ _ _ n)
 
-          pub refused-not : InScope b c → First (before b c) 0
+          pub refused-not : InScope In c → First (before In b c) 0
           refused-not s = past-5 _ _ (pass _ _ _ _ (λ k. k s) none)
 
 -- ---- the two halves in a row
 
-module _ (b : Board) (c : Command) where
-  pub decided-early : (n : ℕ) → n ≢ 0 → First (before b c) n → Decided b c n b
-  decided-early n h f = record { numbered = first-refused (before b c) _ n h f; done = λ z. absurd (h z); refused = λ _. refl }
+pub decided-unsound : (b : Board) (c : Command) → (Sound (tablesOf b) → ⊥) → Decided b c 1 b
+decided-unsound b c n = record { numbered = hit _ _ _ n; done = λ z. absurd (omega (arith, z)); refused = λ _. refl }
 
-  pub decided-unsound : (Sound (tablesOf b) → ⊥) → Decided b c 1 b
-  decided-unsound n = decided-early 1 (λ z. omega (arith, z)) (refused-1 b c n)
+module _ (In : ℕ → ℕ → Type 0) (Looping : Tables → Type 0) (b : Board) (c : Command) where
+  abbrev Outcome : ℕ → Board → Type 0
+  Outcome = DecidedBy (before In b c ++ afterwards Looping (after b c) c) b c
 
-  module _ (m : ℕ) (early : m ≡ 0) (passed : First (before b c) m) (next : Board) (is : next ≡ after b c) where
-    late : (n : ℕ) → First (afterwards next c) n → First (refusals b c) n
+  pub decided-early : (n : ℕ) → n ≢ 0 → First (before In b c) n → Outcome n b
+  decided-early n h f = record { numbered = first-refused (before In b c) _ n h f; done = λ z. absurd (h z); refused = λ _. refl }
+
+  module _ (m : ℕ) (early : m ≡ 0) (passed : First (before In b c) m) (next : Board) (is : next ≡ after b c) where
+    late : (n : ℕ) → First (afterwards Looping next c) n → First (before In b c ++ afterwards Looping (after b c) c) n
     late n f =
-        first-next (before b c) (afterwards (after b c) c) n (first-done (before b c) refl (subst (First (before b c)) early passed))
-        (subst (λ (k : Board). First (afterwards k c) n) is f)
+        first-next (before In b c) (afterwards Looping (after b c) c) n (first-done (before In b c) refl (subst (First (before In b c)) early passed))
+        (subst (λ (k : Board). First (afterwards Looping k c) n) is f)
 
-    pub decided-late : (n : ℕ) → n ≢ 0 → First (afterwards next c) n → Decided b c n b
+    pub decided-late : (n : ℕ) → n ≢ 0 → First (afterwards Looping next c) n → Outcome n b
     decided-late n h f = record { numbered = late n f; done = λ z. absurd (h z); refused = λ _. refl }
 
-    pub decided-done : (n : ℕ) → n ≡ 0 → First (afterwards next c) n → Decided b c 0 next
-    decided-done n z f = record { numbered = subst (First (refusals b c)) z (late n f); done = λ _. is; refused = λ h. absurd (h refl) }
+    pub decided-done : (n : ℕ) → n ≡ 0 → First (afterwards Looping next c) n → Outcome 0 next
+    decided-done n z f = record { numbered = subst (First (before In b c ++ afterwards Looping (after b c) c)) z (late n f); done = λ _. is; refused = λ h. absurd (h refl) }

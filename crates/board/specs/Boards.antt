@@ -1,10 +1,8 @@
 -- A board of the code as the tables of the mathematics, and the founding board.
-use mathlib.Core.List.{List, [], _∷_}
+use mathlib.Core.List.{List}
 use Prim.Native.Nat.{ℕ}
 use lib.ListN.{replicate}
-use Rattle.hierarchy.specs.Words.{Managed}
 use Rattle.hierarchy.specs.Tables.{Tables, tables}
-use Rattle.hierarchy.specs.Views.{InOrder}
 use Rattle.board.specs.declared.Board.{Board}
 
 -- The one place where the mathematics sees the struct.
@@ -17,8 +15,3 @@ foundingBoard = record { live = 1; i = replicate 64 0; a = replicate 64 0 }
 
 abbrev pub boardOf : ℕ → List ℕ → List ℕ → Board
 boardOf live i a = record { live = live; i = i; a = a }
-
--- What tables give by themselves, in the order it is tried: the live roles are not in order; some role has no administrator. Where
--- entries join live roles, the first is that some role reaches itself (`Rattle.board.proofs.Looking`, `troubles-joined`).
-abbrev pub troubles : Tables → List (ℕ × Type 0)
-troubles t = (7, (InOrder t → ⊥)) ∷ (9, (Managed t → ⊥)) ∷ []

@@ -5,8 +5,8 @@ use mathlib.Core.Logic.{_⊎_, _≢_}
 use mathlib.Core.List.{List, [], _∷_, _++_}
 use Prim.Native.Nat.{ℕ, _≤_, _<_}
 use lib.Dec.{eqb, leb}
-use Rattle.sets.specs.Sets.{bit, _∈_}
-use Rattle.hierarchy.specs.Tables.{kind}
+use Rattle.sets.specs.Sets.{bit, _isIn_}
+use Rattle.hierarchy.specs.Tables.{Tables, kind}
 use Rattle.hierarchy.specs.Words.{Scope, Administrator, Loops, Managed, Sound}
 use Rattle.hierarchy.specs.First.{First}
 use Rattle.board.specs.Boards.{tablesOf}
@@ -59,7 +59,7 @@ abbrev pub edgeKind : Board → Command → ℕ
 edgeKind b c = kind (tablesOf b) (c .role) (c .junior)
 
 pub data Standing (b : Board) (c : Command) : Type 0 where
-  role : c .code ≡ 1 → c .role ∈ b .live → Standing b c
+  role : c .code ≡ 1 → c .role isIn b .live → Standing b c
   edge : c .code ≡ 3 → edgeKind b c ≢ 0 → Standing b c
 
 pub record NoEdge (b : Board) (c : Command) : Type 0 where
@@ -76,9 +76,11 @@ scoped c x = (eqb (c .code) 1 && asSenior c x) || (leb 3 (c .code) && (eqb x (c 
 unfoldable pub strictly : Command → ℕ → Bool
 strictly c x = (eqb (c .code) 1 && asJunior c x) || (eqb (c .code) 2 && eqb x (c .role))
 
-pub record InScope (b : Board) (c : Command) : Type 0 where
-  pub scope : (x : ℕ) → scoped c x ≡ true → Scope (tablesOf b) (c .actor) x
-  pub strict : (x : ℕ) → strictly c x ≡ true → Administrator (tablesOf b) (c .actor) x
+-- `In a x` says that x is in the scope of a: document 01's word in its own table, what was worked out of it in another's. Strict scope
+-- leaves out the actor itself.
+pub record InScope (In : ℕ → ℕ → Type 0) (c : Command) : Type 0 where
+  pub scope : (x : ℕ) → scoped c x ≡ true → In (c .actor) x
+  pub strict : (x : ℕ) → strictly c x ≡ true → In (c .actor) x × (c .actor ≢ x)
 
 -- ---- row 8, on the board afterwards: the new role is outside the actor's strict scope
 
@@ -88,31 +90,34 @@ pub record Outside (b : Board) (c : Command) : Type 0 where
 
 -- ---- the table of refusals, in the order they are tried
 
--- on the board handed in
-abbrev pub before : Board → Command → List (ℕ × Type 0)
-before b c =
-    (1, (Sound (tablesOf b) → ⊥))
-    ∷ (2, Malformed c)
+-- on the board handed in, by what scope means there
+abbrev pub before : (ℕ → ℕ → Type 0) → Board → Command → List (ℕ × Type 0)
+before In b c =
+    (2, Malformed c)
     ∷ (3, Missing b c)
     ∷ (4, Standing b c)
     ∷ (5, NoEdge b c)
-    ∷ (6, (InScope b c → ⊥))
+    ∷ (6, (InScope In c → ⊥))
     ∷ []
 
--- on the board that the command would leave
-abbrev pub afterwards : Board → Command → List (ℕ × Type 0)
-afterwards b c =
-    (7, Loops (tablesOf b))
+-- on the board that the command would leave, by what counts as a loop there
+abbrev pub afterwards : (Tables → Type 0) → Board → Command → List (ℕ × Type 0)
+afterwards Looping b c =
+    (7, Looping (tablesOf b))
     ∷ (8, Outside b c)
     ∷ (9, (Managed (tablesOf b) → ⊥))
     ∷ []
 
+-- document 01's table: its own words in both, and an unsound board refused first
 abbrev pub refusals : Board → Command → List (ℕ × Type 0)
-refusals b c = before b c ++ afterwards (after b c) c
+refusals b c = (1, (Sound (tablesOf b) → ⊥)) ∷ (before (Scope (tablesOf b)) b c ++ afterwards Loops (after b c) c)
 
 -- ---- what a command answers: the number by the table; done makes the change, a refusal leaves the board as it was
 
-pub record Decided (b : Board) (c : Command) (number : ℕ) (board : Board) : Type 0 where
-  pub numbered : First (refusals b c) number
+pub record DecidedBy (rules : List (ℕ × Type 0)) (b : Board) (c : Command) (number : ℕ) (board : Board) : Type 0 where
+  pub numbered : First rules number
   pub done : number ≡ 0 → board ≡ after b c
   pub refused : number ≢ 0 → board ≡ b
+
+abbrev pub Decided : Board → Command → ℕ → Board → Type 0
+Decided b c = DecidedBy (refusals b c) b c

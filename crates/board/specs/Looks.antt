@@ -1,48 +1,70 @@
--- What the functions promise each other: a look at a board with its views, and rows 6 and 8 of the refusals read off what was worked out.
+-- A look at a board, and the refusals and answers of what goes on with views already worked out: read off the two lent tables, whatever
+-- they hold. `Rattle.board.proofs.Viewing` says that with a sound board's own views they are document 01's.
 use mathlib.Core.Path.{_≡_}
-use mathlib.Core.Bool.{Bool, true}
-use mathlib.Core.Logic.{_≢_, _↔_}
-use mathlib.Core.List.{List}
+use mathlib.Core.Bool.{Bool, true, false}
+use mathlib.Core.Logic.{_⊎_, _↔_}
+use mathlib.Core.List.{List, _++_}
 use Prim.Native.Nat.{ℕ}
-use lib.ListN.{length, replicate}
-use Rattle.sets.specs.Sets.{_∈_}
-use Rattle.hierarchy.specs.First.{First}
-use Rattle.hierarchy.specs.Tables.{Tables}
-use Rattle.hierarchy.specs.Views.{AreViews, AdminBy}
+use Rattle.sets.specs.Sets.{_isIn_}
+use Rattle.sets.specs.declared.Pick.{Pick}
+use Rattle.sets.specs.declared.Pick.the-variants.{Role as One, Nobody as None}
+use Rattle.hierarchy.specs.Tables.{Tables, row}
+use Rattle.hierarchy.specs.Views.{AreViews, InOrder, ScopeBy, AdminBy, Managing, Climbing}
 use Rattle.hierarchy.specs.Words.{Sound}
-use Rattle.board.specs.Boards.{tablesOf, troubles}
-use Rattle.board.specs.Commands.{scoped, strictly}
+use Rattle.hierarchy.specs.declared.scopes.Climbed.the-variants.{Steps, Stopped}
+use Rattle.board.specs.Boards.{tablesOf}
+use Rattle.board.specs.Effects.{after}
+use Rattle.board.specs.Commands.{before, afterwards, DecidedBy}
+use Rattle.board.specs.Questions.{misnamed, Says, Counts, Answered}
 use Rattle.board.specs.declared.Board.{Board}
 use Rattle.board.specs.declared.Command.{Command}
+use Rattle.board.specs.declared.questions.Manager.{Manager}
+use Rattle.board.specs.declared.questions.Manager.the-variants.{Role, Nobody}
 
--- the views of tables, of 64 rows each
-pub record HasViews (t : Tables) (down up : List ℕ) : Type 0 where
-  pub views : AreViews t down up
-  pub down-rows : length down ≡ 64
-  pub up-rows : length up ≡ 64
+-- ---- a look
 
--- Tables weighed: their trouble, and their views. Where the live roles are not in order there are none, and both are blank.
-pub record Weighed (t : Tables) (number : ℕ) (down up : List ℕ) : Type 0 where
-  pub numbered : First (troubles t) number
-  pub seen : number ≢ 7 → HasViews t down up
-  pub blank : number ≡ 7 → (down ≡ replicate 64 0) × (up ≡ replicate 64 0)
-
--- a look at tables: whether they are sound, and where they are, their views
+-- whether tables are sound, and where they are, their views
 pub record Seen (t : Tables) (sound : Bool) (down up : List ℕ) : Type 0 where
   pub sound-is : (sound ≡ true) ↔ Sound t
-  pub seen : sound ≡ true → HasViews t down up
+  pub seen : sound ≡ true → AreViews t down up
 
--- A sound board with its views, so that these are worked out once: what a question or a command on views already worked out counts on.
+-- a sound board with its views
 pub record Viewed (b : Board) (down up : List ℕ) : Type 0 where
   pub sound : Sound (tablesOf b)
-  pub seen : HasViews (tablesOf b) down up
+  pub seen : AreViews (tablesOf b) down up
 
--- the column "Scope condition before", where `scope` is the scope of the actor
-pub record WithinScope (scope : ℕ) (c : Command) : Type 0 where
-  pub inside : (x : ℕ) → scoped c x ≡ true → x ∈ scope
-  pub strict : (x : ℕ) → strictly c x ≡ true → (x ∈ scope) × (c .actor ≢ x)
+-- ---- a command: document 01's rows 2 to 9, with scope read off the two tables
+
+-- What stands for row 7 on any tables: the live roles are not in order. Where entries join live roles, some role then reaches itself.
+abbrev pub Disordered : Tables → Type 0
+Disordered t = InOrder t → ⊥
 
 -- row 8, read off the views of the board afterwards
 pub record OutsideBy (down up : List ℕ) (c : Command) : Type 0 where
   pub adds : c .code ≡ 1
   pub outside : AdminBy down up (c .actor) (c .role) → ⊥
+
+abbrev pub DecidedOff : List ℕ → List ℕ → Board → Command → ℕ → Board → Type 0
+DecidedOff down up b c = DecidedBy (before (ScopeBy down up) b c ++ afterwards Disordered (after b c) c) b c
+
+-- ---- the questions: their rows 2 and 3, and the value read off the two tables
+
+abbrev pub DerivesOff : ℕ → List ℕ → ℕ → ℕ → ℕ → Bool → Type 0
+DerivesOff live down x y = Answered (misnamed live x y) (Says (y isIn row down x)) false
+
+abbrev pub ScopeOff : ℕ → List ℕ → List ℕ → ℕ → ℕ → ℕ → Bool → ℕ → Type 0
+ScopeOff live down up a r number said count = Answered (misnamed live a r) (Counts (ScopeBy down up a) r) (false, 0) number (said, count)
+
+abbrev pub ManagesOff : List ℕ → List ℕ → ℕ → Manager → Type 0
+ManagesOff down up r (Role m) = Managing down up r (One m)
+ManagesOff down up r Nobody = Managing down up r None
+
+abbrev pub ManagerOff : ℕ → List ℕ → List ℕ → ℕ → ℕ → Manager → Type 0
+ManagerOff live down up r = Answered (misnamed live r r) (ManagesOff down up r) Nobody
+
+-- a climb that is stopped on the way has 0 steps
+abbrev pub ClimbsOff : List ℕ → List ℕ → ℕ → ℕ → Type 0
+ClimbsOff down up r n = Climbing down up r (Steps n) ⊎ (Climbing down up r Stopped × (n ≡ 0))
+
+abbrev pub StepsOff : ℕ → List ℕ → List ℕ → ℕ → ℕ → ℕ → Type 0
+StepsOff live down up r = Answered (misnamed live r r) (ClimbsOff down up r) 0

@@ -5,7 +5,7 @@ use mathlib.Core.Logic.{_⊎_, _≢_, _↔_}
 use mathlib.Core.List.{List, [], _∷_}
 use Prim.Native.Nat.{ℕ, _<_}
 use lib.Count.{ones}
-use Rattle.sets.specs.Sets.{_∈_}
+use Rattle.sets.specs.Sets.{_isIn_}
 use Rattle.hierarchy.specs.Words.{Derives, Scope, LineManager, Climb, Sound}
 use Rattle.hierarchy.specs.First.{First}
 use Rattle.board.specs.Boards.{tablesOf}
@@ -17,37 +17,42 @@ use Rattle.board.specs.declared.questions.Manager.the-variants.{Role, No
 abbrev pub misnamed : ℕ → ℕ → ℕ → List (ℕ × Type 0)
 misnamed live x y =
     (2, (63 < x) ⊎ (63 < y))
-    ∷ (3, (x ∈ live → ⊥) ⊎ (y ∈ live → ⊥))
+    ∷ (3, (x isIn live → ⊥) ⊎ (y isIn live → ⊥))
     ∷ []
 
 abbrev pub refusals : Board → ℕ → ℕ → List (ℕ × Type 0)
 refusals b x y = (1, (Sound (tablesOf b) → ⊥)) ∷ misnamed (b .live) x y
 
--- does x derive y
-pub record DerivesAnswer (b : Board) (x y number : ℕ) (yes : Bool) : Type 0 where
-  pub numbered : First (refusals b x y) number
-  pub done : number ≡ 0 → (yes ≡ true) ↔ Derives (tablesOf b) x y
-  pub refused : number ≢ 0 → yes ≡ false
+-- What a question answers: the number by its table, with 0 a value that is right, with a refusal the one that says no, none or zero.
+pub record Answered {A : Type 0} (rules : List (ℕ × Type 0)) (Right : A → Type 0) (none : A) (number : ℕ) (value : A) : Type 0 where
+  pub numbered : First rules number
+  pub done : number ≡ 0 → Right value
+  pub refused : number ≢ 0 → value ≡ none
 
--- is r in the scope of a; the count is of all live roles in that scope, whatever the answer on r
-pub record ScopeAnswer (b : Board) (a r number : ℕ) (yes : Bool) (count : ℕ) : Type 0 where
-  pub numbered : First (refusals b a r) number
-  pub done : number ≡ 0 → (yes ≡ true) ↔ Scope (tablesOf b) a r
-  pub counted : number ≡ 0 → (set : ℕ) × ((x : ℕ) → (x ∈ set) ↔ Scope (tablesOf b) a x) × (count ≡ ones set)
-  pub refused : number ≢ 0 → (yes ≡ false) × (count ≡ 0)
+-- yes where P holds, no where it doesn't
+abbrev pub Says : Type 0 → Bool → Type 0
+Says P said = (said ≡ true) ↔ P
+
+-- yes or no on r, and how many there are in all, whatever the answer on r
+abbrev pub Counts : (ℕ → Type 0) → ℕ → Bool × ℕ → Type 0
+Counts In r said = Says (In r) (said .0) × ((set : ℕ) × ((x : ℕ) → (x isIn set) ↔ In x) × (said .1 ≡ ones set))
+
+-- does x derive y
+abbrev pub DerivesAnswer : Board → ℕ → ℕ → ℕ → Bool → Type 0
+DerivesAnswer b x y = Answered (refusals b x y) (Says (Derives (tablesOf b) x y)) false
+
+-- is r in the scope of a; the count is of all live roles in that scope
+abbrev pub ScopeAnswer : Board → ℕ → ℕ → ℕ → Bool → ℕ → Type 0
+ScopeAnswer b a r number said count = Answered (refusals b a r) (Counts (Scope (tablesOf b) a) r) (false, 0) number (said, count)
 
 -- the line manager of r as document 01 says it for each case of the answer: a role that is it, or none
 abbrev pub Manages : Board → ℕ → Manager → Type 0
 Manages b r (Role m) = LineManager (tablesOf b) m r
 Manages b r Nobody = (m : ℕ) → LineManager (tablesOf b) m r → ⊥
 
-pub record ManagerAnswer (b : Board) (r number : ℕ) (manager : Manager) : Type 0 where
-  pub numbered : First (refusals b r r) number
-  pub done : number ≡ 0 → Manages b r manager
-  pub refused : number ≢ 0 → manager ≡ Nobody
+abbrev pub ManagerAnswer : Board → ℕ → ℕ → Manager → Type 0
+ManagerAnswer b r = Answered (refusals b r r) (Manages b r) Nobody
 
 -- the steps from r to role 0
-pub record StepsAnswer (b : Board) (r number steps : ℕ) : Type 0 where
-  pub numbered : First (refusals b r r) number
-  pub done : number ≡ 0 → Climb (tablesOf b) r steps
-  pub refused : number ≢ 0 → steps ≡ 0
+abbrev pub StepsAnswer : Board → ℕ → ℕ → ℕ → Type 0
+StepsAnswer b r = Answered (refusals b r r) (Climb (tablesOf b) r) 0

@@ -1,19 +1,18 @@
 // The five commands. `step` decides one: it tries the refusals of document 01 in their order, first on the board it is handed, then
 // on the board the command would leave, and gives back the number and the board, changed where the number is 0. `decide` is the same
-// for a caller that has just found the board sound and has its views.
+// for a caller that has just found the board sound and has its views: it takes scope as the two tables that are lent say it.
 ghost use mathlib.Core.Path.{_≡_};
 ghost use mathlib.Core.Bool.{true, false, not, _&&_, _||_};
 ghost use mathlib.Core.Logic.{_↔_};
 ghost use Prim.Native.Nat.{ℕ};
 ghost use lib.Dec.{eqb, leb};
-ghost use Rattle.sets.specs.Sets.{bit};
-ghost use lib.ListN.{length};
+ghost use Rattle.sets.specs.Sets.{bit, _isIn_};
 ghost use Rattle.hierarchy.specs.First.{First};
-ghost use Rattle.hierarchy.specs.Tables.{tables, row, Shaped};
-ghost use Rattle.hierarchy.specs.Words.{Joined};
+ghost use Rattle.hierarchy.specs.Tables.{row};
+ghost use Rattle.hierarchy.specs.Views.{ScopeBy};
 ghost use Rattle.board.specs.Boards.{boardOf};
-ghost use Rattle.board.specs.Looks.{Viewed, WithinScope, OutsideBy};
-ghost use Rattle.board.specs.Commands.{Malformed, needed, scoped, strictly, before, afterwards, Decided};
+ghost use Rattle.board.specs.Looks.{Disordered, OutsideBy, DecidedOff};
+ghost use Rattle.board.specs.Commands.{Malformed, needed, scoped, strictly, InScope, before, afterwards, Decided};
 use crate::Board;
 use crate::Command;
 use crate::effects::after;
@@ -140,7 +139,7 @@ fn no_edge(c: Command, edge: bool) -> bool
 // Not 6: all are in the actor's scope that must be, `scope` being that.
 fn within_scope(scope: u64, c: Command) -> bool
     requires { ⌜ (Malformed c → ⊥) ⌝ }
-    ensures { λ r. ⌜ (r ≡ true) ↔ WithinScope scope c ⌝ }
+    ensures { λ r. ⌜ (r ≡ true) ↔ InScope (λ a x. x isIn scope) c ⌝ }
 {
     if !within(in_scope(c), scope) {
         return false;
@@ -150,7 +149,6 @@ fn within_scope(scope: u64, c: Command) -> bool
 
 // 8: the new role is outside the actor's strict scope.
 fn outside<'v>(down: &'v [u64; 64], up: &'v [u64; 64], c: Command) -> bool
-    requires { ⌜ length (now up) ≡ 64 ⌝ }
     ensures { λ r. ⌜ (r ≡ true) ↔ OutsideBy (now (down .entry)) (now (up .entry)) c ⌝ }
 {
     if c.code == 1 {
@@ -159,7 +157,7 @@ fn outside<'v>(down: &'v [u64; 64], up: &'v [u64; 64], c: Command) -> bool
     false
 }
 
-// The refusals on the board handed in, where it is sound and these are its views.
+// The refusals on the board handed in, past the first.
 fn refused_before<'t>(
     live: u64,
     i: &'t [u64; 64],
@@ -168,7 +166,7 @@ fn refused_before<'t>(
     down: &'t [u64; 64],
     up: &'t [u64; 64],
 ) -> u8
-    ensures { λ r. ⌜ (Viewed (boardOf live (now (i .entry)) (now (a .entry))) (now (down .entry)) (now (up .entry)) → First (before (boardOf live (now (i .entry)) (now (a .entry))) c) r) ⌝ }
+    ensures { λ r. ⌜ First (before (ScopeBy (now (down .entry)) (now (up .entry))) (boardOf live (now (i .entry)) (now (a .entry))) c) r ⌝ }
 {
     if malformed(c) {
         return 2;
@@ -189,9 +187,9 @@ fn refused_before<'t>(
     6
 }
 
-// The refusals on the board that the command would leave; its entries join live roles.
+// The refusals on the board that the command would leave.
 fn refused_after<'t>(live: u64, i: &'t [u64; 64], a: &'t [u64; 64], c: Command) -> u8
-    ensures { λ r. ⌜ (Shaped (tables live (now (i .entry)) (now (a .entry))) → Joined (tables live (now (i .entry)) (now (a .entry))) → First (afterwards (boardOf live (now (i .entry)) (now (a .entry))) c) r) ⌝ }
+    ensures { λ r. ⌜ First (afterwards Disordered (boardOf live (now (i .entry)) (now (a .entry))) c) r ⌝ }
 {
     let mut down = [0u64; 64];
     let mut up = [0u64; 64];
@@ -207,7 +205,7 @@ fn refused_after<'t>(live: u64, i: &'t [u64; 64], a: &'t [u64; 64], c: Command) 
     9
 }
 
-// One command on the board of these tables, which was found sound, with its views.
+// One command on the board of these tables, by these views.
 pub fn decide<'t>(
     live: u64,
     i: &'t [u64; 64],
@@ -216,7 +214,7 @@ pub fn decide<'t>(
     down: &'t [u64; 64],
     up: &'t [u64; 64],
 ) -> Outcome
-    ensures { λ r. ⌜ (Viewed (boardOf live (now (i .entry)) (now (a .entry))) (now (down .entry)) (now (up .entry)) → Decided (boardOf live (now (i .entry)) (now (a .entry))) c (r .number) (r .board)) ⌝ }
+    ensures { λ r. ⌜ DecidedOff (now (down .entry)) (now (up .entry)) (boardOf live (now (i .entry)) (now (a .entry))) c (r .number) (r .board) ⌝ }
 {
     let early = refused_before(live, i, a, c, down, up);
     let b = Board { live, i: *i, a: *a };

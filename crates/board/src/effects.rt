@@ -66,7 +66,7 @@ fn living(live: u64, c: Command) -> u64
 }
 
 // Whether a kind has the part `own`, 1 or 2: it is that kind, or both.
-fn has_part(kind: u8, own: u8) -> bool
+fn has_part(kind: u32, own: u32) -> bool
     ensures { λ r. ⌜ r ≡ (eqb kind own || eqb kind 3) ⌝ }
 {
     kind == own || kind == 3

@@ -40,13 +40,14 @@ impl Board {
 }
 
 // What a coordinator asks for. `role` is the role of commands 1 and 2, and the senior of 3, 4 and 5. A field that a command
-// doesn't use may hold anything.
+// doesn't use may hold anything. Numbers are as wide as a caller's, so that one that is no role stays none and is refused.
+#[repr(C)]
 pub struct Command {
-    pub code: u8,
-    pub actor: u8,
-    pub role: u8,
-    pub junior: u8,
-    pub kind: u8,
+    pub code: u32,
+    pub actor: u32,
+    pub role: u32,
+    pub junior: u32,
+    pub kind: u32,
     pub a_seniors: u64,
     pub i_seniors: u64,
     pub a_juniors: u64,

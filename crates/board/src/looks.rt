@@ -1,8 +1,9 @@
 // One look at a board: whether it is sound, and its views, worked out once a call and handed on.
 ghost use Rattle.hierarchy.specs.Tables.{tables, IsTable};
 ghost use Rattle.board.specs.Looks.{Seen};
-use crate::checks::trouble;
-use hierarchy::loops::joined;
+use hierarchy::entries::joined;
+use hierarchy::scopes::managed;
+use hierarchy::views::views_in_order;
 use sets::has;
 
 // Whether the board of these tables is sound; if so, its views are in `down` and `up`.
@@ -22,5 +23,8 @@ pub(crate) fn look<'t>(
     if !joined(live, i, a) {
         return false;
     }
-    trouble(live, i, a, down, up) == 0
+    if !views_in_order(live, i, a, down, up) {
+        return false;
+    }
+    managed(live, down, up)
 }

@@ -1,12 +1,9 @@
 // The four questions. Each looks at the board once, and answers 1, 2 or 3 with no, none or zero, or 0 with the answer. The forms
 // with `_by` are for a caller that has just found the board sound and has its views: the same answer, with nothing worked out again.
-ghost use mathlib.Core.Path.{_≡_};
-ghost use mathlib.Core.List.{List};
-ghost use Prim.Native.Nat.{ℕ};
+// Their answer is the one read off the two tables that are lent, whatever these hold.
 ghost use Rattle.hierarchy.specs.First.{First};
-ghost use Rattle.board.specs.Looks.{Viewed};
+ghost use Rattle.board.specs.Looks.{DerivesOff, ScopeOff, ManagerOff, StepsOff};
 ghost use Rattle.board.specs.Questions.{misnamed, DerivesAnswer, ScopeAnswer, ManagerAnswer, StepsAnswer};
-ghost use Rattle.board.specs.declared.Board.{Board};
 use crate::Board;
 use crate::looks::look;
 use hierarchy::scopes::Climbed;
@@ -42,8 +39,8 @@ pub struct Stepped {
     pub steps: usize,
 }
 
-// The refusals of a question about x and y on a sound board.
-fn refused(live: u64, x: u8, y: u8) -> u8
+// The refusals of a question about x and y, past the first.
+fn refused(live: u64, x: u32, y: u32) -> u8
     ensures { λ r. ⌜ First (misnamed live x y) r ⌝ }
 {
     if x > 63 {
@@ -62,7 +59,7 @@ fn refused(live: u64, x: u8, y: u8) -> u8
 }
 
 // Does x derive y.
-pub fn derives(b: Board, x: u8, y: u8) -> Derived
+pub fn derives(b: Board, x: u32, y: u32) -> Derived
     ensures { λ r. ⌜ DerivesAnswer b x y (r .number) (r .yes) ⌝ }
 {
     let mut down = [0u64; 64];
@@ -76,9 +73,9 @@ pub fn derives(b: Board, x: u8, y: u8) -> Derived
     derives_by(b.live, &down, x, y)
 }
 
-// The same off the views of a sound board.
-pub fn derives_by(live: u64, down: &[u64; 64], x: u8, y: u8) -> Derived
-    ensures { λ r. ⌜ ((b : Board) (up : List ℕ) → b .live ≡ live → Viewed b (now (down .entry)) up → DerivesAnswer b x y (r .number) (r .yes)) ⌝ }
+// The same, off two views.
+pub fn derives_by(live: u64, down: &[u64; 64], x: u32, y: u32) -> Derived
+    ensures { λ r. ⌜ DerivesOff live (now (down .entry)) x y (r .number) (r .yes) ⌝ }
 {
     let number = refused(live, x, y);
     if number != 0 {
@@ -89,7 +86,7 @@ pub fn derives_by(live: u64, down: &[u64; 64], x: u8, y: u8) -> Derived
 }
 
 // Is r in the scope of a, and how many are.
-pub fn scope(b: Board, a: u8, r: u8) -> Scoped
+pub fn scope(b: Board, a: u32, r: u32) -> Scoped
     ensures { λ y. ⌜ ScopeAnswer b a r (y .number) (y .yes) (y .count) ⌝ }
 {
     let mut down = [0u64; 64];
@@ -104,9 +101,9 @@ pub fn scope(b: Board, a: u8, r: u8) -> Scoped
     scope_by(b.live, &down, &up, a, r)
 }
 
-// The same off the views of a sound board.
-pub fn scope_by<'v>(live: u64, down: &'v [u64; 64], up: &'v [u64; 64], a: u8, r: u8) -> Scoped
-    ensures { λ y. ⌜ ((b : Board) → b .live ≡ live → Viewed b (now (down .entry)) (now (up .entry)) → ScopeAnswer b a r (y .number) (y .yes) (y .count)) ⌝ }
+// The same, off two views.
+pub fn scope_by<'v>(live: u64, down: &'v [u64; 64], up: &'v [u64; 64], a: u32, r: u32) -> Scoped
+    ensures { λ y. ⌜ ScopeOff live (now (down .entry)) (now (up .entry)) a r (y .number) (y .yes) (y .count) ⌝ }
 {
     let number = refused(live, a, r);
     if number != 0 {
@@ -123,7 +120,7 @@ pub fn scope_by<'v>(live: u64, down: &'v [u64; 64], up: &'v [u64; 64], a: u8, r:
 }
 
 // The line manager of r.
-pub fn line_manager(b: Board, r: u8) -> Managed
+pub fn line_manager(b: Board, r: u32) -> Managed
     ensures { λ y. ⌜ ManagerAnswer b r (y .number) (y .manager) ⌝ }
 {
     let mut down = [0u64; 64];
@@ -137,9 +134,9 @@ pub fn line_manager(b: Board, r: u8) -> Managed
     line_manager_by(b.live, &down, &up, r)
 }
 
-// The same off the views of a sound board.
-pub fn line_manager_by<'v>(live: u64, down: &'v [u64; 64], up: &'v [u64; 64], r: u8) -> Managed
-    ensures { λ y. ⌜ ((b : Board) → b .live ≡ live → Viewed b (now (down .entry)) (now (up .entry)) → ManagerAnswer b r (y .number) (y .manager)) ⌝ }
+// The same, off two views.
+pub fn line_manager_by<'v>(live: u64, down: &'v [u64; 64], up: &'v [u64; 64], r: u32) -> Managed
+    ensures { λ y. ⌜ ManagerOff live (now (down .entry)) (now (up .entry)) r (y .number) (y .manager) ⌝ }
 {
     let number = refused(live, r, r);
     if number != 0 {
@@ -161,7 +158,7 @@ pub fn line_manager_by<'v>(live: u64, down: &'v [u64; 64], up: &'v [u64; 64], r:
 }
 
 // The steps from r to role 0 by line managers. On a sound board no live role is stopped on the way.
-pub fn steps(b: Board, r: u8) -> Stepped
+pub fn steps(b: Board, r: u32) -> Stepped
     ensures { λ y. ⌜ StepsAnswer b r (y .number) (y .steps) ⌝ }
 {
     let mut down = [0u64; 64];
@@ -175,9 +172,9 @@ pub fn steps(b: Board, r: u8) -> Stepped
     steps_by(b.live, &down, &up, r)
 }
 
-// The same off the views of a sound board.
-pub fn steps_by<'v>(live: u64, down: &'v [u64; 64], up: &'v [u64; 64], r: u8) -> Stepped
-    ensures { λ y. ⌜ ((b : Board) → b .live ≡ live → Viewed b (now (down .entry)) (now (up .entry)) → StepsAnswer b r (y .number) (y .steps)) ⌝ }
+// The same, off two views.
+pub fn steps_by<'v>(live: u64, down: &'v [u64; 64], up: &'v [u64; 64], r: u32) -> Stepped
+    ensures { λ y. ⌜ StepsOff live (now (down .entry)) (now (up .entry)) r (y .number) (y .steps) ⌝ }
 {
     let number = refused(live, r, r);
     if number != 0 {

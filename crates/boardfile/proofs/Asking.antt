@@ -1,89 +1,92 @@
--- The number of a stretch, and its answer. Assumes nothing.
-use mathlib.Core.Path.{_≡_, refl, sym, ap, ap₂, _∙_, subst}
-use mathlib.Core.Logic.{inl, inr, ⊎-elim, _≢_, dite}
+-- The answers of the questions on a file, and of the stretch, from those on its board. Assumes nothing.
+use mathlib.Core.Path.{_≡_, refl, ap, ap₂, _∙_, subst}
+use mathlib.Core.Logic.{_⊎_, inl, inr, _↔_, Iff·rfl, _≢_, dite}
 use mathlib.Core.List.{List, [], _∷_}
-use Prim.Native.Nat.{ℕ, _+_, _-_, _*_, _≤_, _<_}
+use Prim.Native.Nat.{ℕ, _+_, _≤_, _<_}
 use native.Mathlib.Decide.{ℕ-discrete}
-use lib.ListN.{length, take, drop}
 use native.Mathlib.Omega.{arith}
-use Rattle.hierarchy.specs.Tables.{Live}
+use lib.ListN.{length, take, drop}
+use Rattle.sets.specs.Sets.{_isIn_}
 use Rattle.hierarchy.specs.First.{First}
-use Rattle.board.specs.Boards.{tablesOf}
+use Rattle.board.specs.Questions.{misnamed, Answered}
+use Rattle.board.specs.Questions.{refusals as questionRefusals}
 use Rattle.board.specs.declared.Board.{Board}
-use Rattle.board.proofs.Rules.{first-done, first-refused, first-next}
-use Rattle.boardfile.specs.Files.{stretchOf, startOf}
-use Rattle.boardfile.specs.Faults.{BadFrame}
-use Rattle.boardfile.specs.Parts.{GoodFrame, Below, Asked}
-use Rattle.boardfile.specs.Answers.{IsFile, refusals, ReadAnswer, stretchRefusals, BoundsAnswer, StretchAnswer}
+use Rattle.board.proofs.Rules.{first-alike, first-done, first-refused, first-next}
+use Rattle.board.proofs.Asking.{answer-as}
+use Rattle.boardfile.specs.Files.{stretchOf}
+use Rattle.boardfile.specs.Answers.{IsFile, refusals, ReadAnswer, askedRefusals, OfFile, startOrNone, Stands, BoundsAnswer, StretchAnswer}
 use Rattle.boardfile.proofs.OneFile.{one-board}
-use Rattle.boardfile.proofs.Stretches.{start-of, stretch-is, stretch-inside, up-to-it}
+use Rattle.boardfile.proofs.Places.{stands-small, place-inside, place-is}
 
--- ---- the number
+-- ---- the numbers
 
--- the last two refusals
-abbrev own : List ℕ → ℕ → List (ℕ × Type 0)
-own f role = (2, 63 < role) ∷ (3, ((b : Board) × IsFile f b × (Live (tablesOf b) role → ⊥))) ∷ []
+-- the two refusals of its own
+abbrev own : List ℕ → ℕ → ℕ → List (ℕ × Type 0)
+own f x y = (2, (63 < x) ⊎ (63 < y)) ∷ (3, ((b : Board) × IsFile f b × ((x isIn b .live → ⊥) ⊎ (y isIn b .live → ⊥)))) ∷ []
 
-in-range : (f : List ℕ) (role : ℕ) → First (stretchRefusals f role) 0 → role < 64
-in-range f role h = let passed = first-done (stretchRefusals f role) refl h in omega (arith, passed .1 .1 .1 .1 .0)
+pub asked-refused : (f : List ℕ) (x y n : ℕ) → First (refusals f) n → n ≢ 0 → First (askedRefusals f x y) n
+asked-refused f x y n h z = first-refused (refusals f) (own f x y) n z h
 
-module _ {f : List ℕ} {board : Board} (number role r : ℕ) (a : ReadAnswer f number board) (k : Asked number (board .live) role r) where
-  past-reading : number ≡ 0 → First (own f role) r
-  unfolding First
-  past-reading e = ⊎-elim inl
-      (λ p. inr (
-        p .0,
-        ⊎-elim
-            (λ q. inl ((board, a .done e .0, q .0), q .1))
-            (λ q. inr (λ w. q .0 (subst (λ (b : Board). Live (tablesOf b) role → ⊥) (one-board (w .1) (a .done e .0)) (w .2)), q .1))
-            (p .1),
-      ))
-      (k .own e)
-
-  pub stretch-numbered : First (stretchRefusals f role) r
-  stretch-numbered = dite (ℕ-discrete number 0)
-      (λ e. first-next (refusals f) (own f role) r (first-done (refusals f) refl (subst (First (refusals f)) e (a .numbered))) (past-reading e))
-      (λ n. subst (First (stretchRefusals f role)) (sym (k .kept n)) (first-refused (refusals f) (own f role) number n (a .numbered)))
-
-  -- ---- where the records are
-
-  pub bounds-refused : r ≢ 0 → BoundsAnswer f role 0 0
-  bounds-refused n = record { number = r; numbered = stretch-numbered; done = λ e. absurd (n e); refused = λ _. (refl, refl) }
-
-  pub bounds-done : (n m p q : ℕ) → GoodFrame f n m → Below f m role p → Below f m (role + 1) q → r ≡ 0 → BoundsAnswer f role (n + 3 * p) (n + 3 * q)
-  bounds-done n m p q good a′ b′ e =
-      record { number = r; numbered = stretch-numbered; done = λ _. (board, is, start-of is good role p (omega (arith, small)) a′, start-of is good (role + 1) q small b′); refused = λ n. absurd (n e) }
+module _ {f : List ℕ} {b : Board} (r : ReadAnswer f 0 b) where
+  asked-own : (x y n : ℕ) → First (misnamed (b .live) x y) n → First (askedRefusals f x y) n
+  asked-own x y n h =
+      first-next (refusals f) (own f x y) n (first-done (refusals f) refl (r .numbered))
+      (first-alike [] [] (misnamed (b .live) x y) (own f x y) n tt (λ _. (refl, Iff·rfl, (refl, dead, tt))) h)
     where
-      zeroed : number ≡ 0
-      zeroed = dite (ℕ-discrete number 0) (λ z. z) (λ n. absurd (n (sym (k .kept n) ∙ e)))
+      Dead : Board → Type 0
+      Dead d = (x isIn d .live → ⊥) ⊎ (y isIn d .live → ⊥)
 
-      is : IsFile f board
-      is = a .done zeroed .0
+      dead : Dead b ↔ ((d : Board) × IsFile f d × Dead d)
+      dead = (λ h. (b, r .done refl .0, h), λ w. subst Dead (one-board (w .1) (r .done refl .0)) (w .2))
 
-      small : role + 1 ≤ 64
-      small = omega (arith, in-range f role (subst (First (stretchRefusals f role)) e stretch-numbered))
+  module _ {A : Type 0} {Right : Board → A → Type 0} {none v : A} {n : ℕ} (x y : ℕ) where
+    -- what holds of the board holds of the file
+    pub of-file : Answered (misnamed (b .live) x y) (Right b) none n v → Answered (askedRefusals f x y) (OfFile f Right) none n v
+    of-file a = answer-as (asked-own x y n) (λ _ h. (b, r, h)) a
 
-pub bounds-frame : {f : List ℕ} {role : ℕ} → BadFrame f → BoundsAnswer f role 0 0
-unfolding First
-bounds-frame h = record { number = 10; numbered = inl (h, refl); done = λ e. absurd (omega arith); refused = λ _. (refl, refl) }
+    pub on-file : Answered (questionRefusals b x y) (Right b) none n v → Answered (askedRefusals f x y) (OfFile f Right) none n v
+    unfolding First
+    on-file a = of-file (answer-as past (λ _ h. h) a)
+      where
+        past : First (questionRefusals b x y) n → First (misnamed (b .live) x y) n
+        past (inl p) = absurd (p .0 (r .done refl .1))
+        past (inr p) = p .1
 
--- ---- the part itself
+-- ---- the stretch
 
-module _ {f : List ℕ} {role start end : ℕ} (a : BoundsAnswer f role start end) where
-  pub bounds-inside : (start ≤ end) × (end ≤ length f)
-  bounds-inside = dite (ℕ-discrete (a .number) 0)
-      (λ e. let w = a .done e in
-      let l = in-range f role (subst (First (stretchRefusals f role)) e (a .numbered)) in
-      (omega (arith, up-to-it (w .0) role l), omega (arith, ap length (w .1 .bytes), stretch-inside (w .0) role l)))
-      (λ n. let w = a .refused n in (omega arith, omega arith))
+in-range : (f : List ℕ) (role : ℕ) → First (askedRefusals f role role) 0 → role < 64
+in-range f role h =
+    let passed = first-done (askedRefusals f role role) refl h in
+    let low : 63 < role → ⊥ = λ g. passed .1 .1 .1 .1 .0 (inl g) in
+    omega (arith, low)
 
-  pub stretched : StretchAnswer f role (take (end - start) (drop start f))
-  stretched = record {
-    number = a .number;
+module _ {f : List ℕ} {role number start len : ℕ} (a : BoundsAnswer f role number start len) where
+  found : number ≡ 0 → (b : Board) × IsFile f b × Stands role b (start, len) × (role < 64)
+  found e = let w = a .done e in (w .0, w .1 .done refl .0, w .2, in-range f role (subst (First (askedRefusals f role role)) e (a .numbered)))
+
+  nowhere : number ≢ 0 → (start ≡ 0) × (len ≡ 0)
+  nowhere n = (ap (λ (p : ℕ × ℕ). p .0) (a .refused n), ap (λ (p : ℕ × ℕ). p .1) (a .refused n))
+
+  -- both numbers take less than 16 bits, and lie in the file
+  pub bounds-small : (start < 65536) × (len < 65536)
+  bounds-small = dite (ℕ-discrete number 0)
+      (λ e. let w = found e in stands-small (w .0) role start len (w .3) (w .2))
+      (λ n. let w = nowhere n in (omega arith, omega arith))
+
+  pub bounds-inside : start + len ≤ length f
+  bounds-inside = dite (ℕ-discrete number 0)
+      (λ e. let w = found e in omega (arith, w .2 .0, w .2 .1, ap length (w .1 .bytes), place-inside (w .0) role (w .3)))
+      (λ n. let w = nowhere n in omega arith)
+
+  pub stretched : (k : ℕ) → k ≡ len → StretchAnswer f role (take k (drop start f)) start
+  stretched k q = record {
+    number = number;
     numbered = a .numbered;
-    done = λ e. let w = a .done e in (w .0, w .1, part (w .0) (w .1) (w .2) (w .3) (in-range f role (subst (First (stretchRefusals f role)) e (a .numbered))));
-    refused = λ n. let w = a .refused n in ap₂ (λ (x y : ℕ). take (y - x) (drop x f)) (w .0) (w .1);
+    done = λ e. let w = found e in (
+      w .0,
+      w .1,
+      ap₂ (λ (n m : ℕ). take n (drop m f)) (q ∙ w .2 .1) (w .2 .0) ∙ ap (λ (g : List ℕ). take (length (stretchOf (w .0) role)) (drop (startOrNone (w .0) role) g)) (w .1 .bytes) ∙ place-is (w .0) role (w .3),
+      w .2 .0,
+    );
+    refused = λ n. let w = nowhere n in (ap₂ (λ (n m : ℕ). take n (drop m f)) (q ∙ w .1) (w .0), w .0);
   }
-    where
-      part : (b : Board) → IsFile f b → start ≡ startOf b role → end ≡ startOf b (role + 1) → role < 64 → take (end - start) (drop start f) ≡ stretchOf b role
-      part b is s e l = rw (s, e, is .bytes) (stretch-is b role l)

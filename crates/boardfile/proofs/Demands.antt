@@ -1,30 +1,38 @@
 -- Start here: the three demands of document 01 as theorems, each with the names of what it rests on. That a call always ends, and that
 -- its answer is as its promise says, is proved of each function by itself; these are about the promises. Assumes nothing.
-use mathlib.Core.Path.{_≡_, refl, sym, subst}
+use mathlib.Core.Path.{_≡_, refl, sym, ap, _∙_, subst}
+use mathlib.Core.Bool.{Bool}
 use mathlib.Core.Logic.{_⊎_, inl, inr, ⊎-elim, ⊎-map, _≢_, _↔_, dite}
 use mathlib.Core.List.{List, [], _∷_}
 use Prim.Native.Nat.{ℕ, _+_, _≤_}
 use native.Mathlib.Decide.{ℕ-discrete}
+use native.Mathlib.Omega.{arith}
 use lib.Count.{ones}
 use lib.ListN.{take, drop}
 use Rattle.hierarchy.specs.Tables.{Live}
 use Rattle.hierarchy.specs.Words.{LineManager, Sound, Climb}
 use Rattle.hierarchy.specs.First.{First}
 use Rattle.hierarchy.proofs.ClimbLaws.{Distinct, met}
-use Rattle.hierarchy.proofs.Theorems.{one-manager, one-climb, climb-distinct, climb-short}
+use Rattle.hierarchy.proofs.Theorems.{no-manager, one-manager, one-climb, one-way, climb-distinct, climb-short}
 use Rattle.board.specs.Boards.{tablesOf, foundingBoard}
 use Rattle.board.specs.Effects.{after}
-use Rattle.board.specs.Commands.{Decided}
+use Rattle.board.specs.Commands.{edgeKind, Decided}
 use Rattle.board.specs.Commands.{refusals as commandRefusals}
+use Rattle.board.specs.Questions.{DerivesAnswer, ScopeAnswer, ManagerAnswer, StepsAnswer}
 use Rattle.board.specs.declared.Board.{Board}
 use Rattle.board.specs.declared.Command.{Command}
+use Rattle.board.specs.declared.questions.Manager.{Manager}
 use Rattle.board.proofs.Founding.{founding-sound}
-use Rattle.board.proofs.Kept.{sound-after}
-use Rattle.board.proofs.Settled.{decided-unique}
+use Rattle.board.proofs.Kept.{sound-after, idle-change}
+use Rattle.board.proofs.Rules.{stable, first-done}
+use Rattle.board.proofs.Settled.{decided-unique, derives-unique, scope-unique, manager-answer-unique, steps-unique}
+use Rattle.hierarchy.proofs.Decide.{sound-dec}
+use Rattle.boardfile.specs.declared.commands.Place.{Place}
 use Rattle.boardfile.specs.Files.{fileOf}
-use Rattle.boardfile.specs.Answers.{refusals, ReadAnswer, WriteAnswer}
+use Rattle.boardfile.specs.Answers.{refusals, ReadAnswer, DerivesOnFile, ScopeOnFile, ManagerOnFile, StepsOnFile, StretchOf, Placed, writeRefusals, WriteAnswer}
+use Rattle.boardfile.specs.Answers.{CommandAnswer, CommandAnswer.unread, CommandAnswer.refused, CommandAnswer.no-room, CommandAnswer.done}
 use Rattle.boardfile.specs.Reached.{Reached, Reached.founding, Reached.file, Reached.command}
-use Rattle.boardfile.proofs.Settled.{read-unique}
+use Rattle.boardfile.proofs.Settled.{read-unique, write-unique, derives-file-unique, scope-file-unique, manager-file-unique, steps-file-unique, stretch-unique, command-unique}
 use Rattle.boardfile.proofs.Theorems.{accepted, reads-back, written-file}
 
 -- n is a number of the table
@@ -37,28 +45,102 @@ unfolding First
 first-among [] n h = inl h
 first-among (rule ∷ rest) n h = ⊎-elim (λ p. inr (inl (p .1))) (λ p. ⊎-map (λ e. e) (λ a. inr a) (first-among rest n (p .1))) h
 
--- ---- demand 1: a command ends with the change made, or with one refusal number of the table, 1 to 9, and the board as it was
+-- a refusal is a number of the table
+refused-among : (t : List (ℕ × Type 0)) (n : ℕ) → First t n → n ≢ 0 → Among n t
+refused-among t n f z = ⊎-elim (λ e. absurd (z e)) (λ a. a) (first-among t n f)
 
+-- ---- demand 1: each call ends with the change made, or with one refusal number of its table, and then all that was lent is as it was
+
+-- a command on a board: 1 to 9
 pub command-ends : {b board : Board} {c : Command} {number : ℕ} → Decided b c number board
     → ((number ≡ 0) × (board ≡ after b c)) ⊎ (Among number (commandRefusals b c) × (board ≡ b))
 command-ends {b} {board} {c} {number} d = dite (ℕ-discrete number 0)
     (λ e. inl (e, d .done e))
-    (λ n. ⊎-elim (λ e. absurd (n e)) (λ a. inr (a, d .refused n)) (first-among (commandRefusals b c) number (d .numbered)))
+    (λ n. inr (refused-among (commandRefusals b c) number (d .numbered) n, d .refused n))
 
--- a file with the board it is the file of, or with one of 10, 11, 7, 9 and the founding board
+-- a file: with the board it is the file of, or with one of 10, 11, 7, 9 and the founding board
 pub file-ends : {f : List ℕ} {board : Board} {number : ℕ} → ReadAnswer f number board
     → ((number ≡ 0) × (f ≡ fileOf board)) ⊎ (Among number (refusals f) × (board ≡ foundingBoard))
 file-ends {f} {board} {number} r = dite (ℕ-discrete number 0)
     (λ e. inl (e, r .done e .0 .bytes))
-    (λ n. ⊎-elim (λ e. absurd (n e)) (λ a. inr (a, r .refused n)) (first-among (refusals f) number (r .numbered)))
+    (λ n. inr (refused-among (refusals f) number (r .numbered) n, r .refused n))
 
--- ---- demand 2: the answer is the one that document 01 states, and no other (`Decided` and `ReadAnswer` state it)
+-- writing: with the file at its place, or with 1 or 12 and the buffer as it was
+pub writing-ends : {b : Board} {entry exit : List ℕ} {at number len : ℕ} → WriteAnswer b entry at exit number len
+    → ((number ≡ 0) × Placed b entry at exit len) ⊎ (Among number (writeRefusals b entry at) × (exit ≡ entry))
+writing-ends {b} {entry} {at = at} {number = number} w = dite (ℕ-discrete number 0)
+    (λ e. inl (e, w .done e))
+    (λ n. inr (refused-among (writeRefusals b entry at) number (w .numbered) n, w .refused n .1))
+
+-- a command on the board in a file: with the file of the board afterwards in the buffer, or with a refusal of the file, of the command on
+-- its board, or of the writing, and the buffer as it was
+abbrev Refused : List ℕ → Command → List ℕ → ℕ → Type 0
+Refused f c entry number =
+    Among number (refusals f)
+    ⊎ ((b : Board) × ReadAnswer f 0 b × (Among number (commandRefusals b c) ⊎ Among number (writeRefusals (after b c) entry 0)))
+
+pub file-command-ends : {f : List ℕ} {c : Command} {entry exit : List ℕ} {place : Place} {number len : ℕ} → CommandAnswer f c entry exit place number len
+    → ((number ≡ 0) × ((b : Board) × ReadAnswer f 0 b × (take len exit ≡ fileOf (after b c)))) ⊎ (Refused f c entry number × (exit ≡ entry))
+file-command-ends {f} (unread {number = n} r z e) = inr (inl (refused-among (refusals f) n (r .numbered) z), e)
+file-command-ends {c = c} (refused {number = n} {b = b} r d z e) = inr (inr (b, r, inl (refused-among (commandRefusals b c) n (d .numbered) z)), e)
+file-command-ends {c = c} {entry = entry} (no-room {b = b} {next = next} r d w) =
+    inr (inr (b, r, inr (inr (inl refl))), w .refused (λ e. absurd (omega (arith, e))) .1)
+file-command-ends (done {b = b} r d w) = inl (refl, (b, r, written-file w ∙ ap fileOf (d .done refl)))
+
+-- ---- demand 2: the answer is the one that document 01 states, and no other. What it states is `Decided`, `DerivesAnswer`, `ScopeAnswer`,
+-- `ManagerAnswer` and `StepsAnswer` on a board, and `ReadAnswer`, `WriteAnswer`, `StretchOf`, the four `..OnFile` and `CommandAnswer` on files.
 
 pub one-outcome : {b x y : Board} {c : Command} {m n : ℕ} → Decided b c m x → Decided b c n y → (m ≡ n) × (x ≡ y)
 one-outcome = decided-unique
 
+-- changing an edge to the kind it has leaves the very board, whatever the number
+pub same-kind-again : {b next : Board} {c : Command} {number : ℕ} → Decided b c number next → c .code ≡ 5 → edgeKind b c ≡ c .kind → next ≡ b
+same-kind-again {b} {next} {c} {number} d e same = dite (ℕ-discrete number 0)
+    (λ z.
+    let passed = first-done (commandRefusals b c) refl (subst (First (commandRefusals b c)) z (d .numbered)) in
+    d .done z ∙ idle-change b c (stable (sound-dec (tablesOf b)) (passed .0) .shaped) e same)
+    (λ n. d .refused n)
+
+module _ (b : Board) where
+  pub one-derives : (x y : ℕ) {m n : ℕ} {p q : Bool} → DerivesAnswer b x y m p → DerivesAnswer b x y n q → (m ≡ n) × (p ≡ q)
+  one-derives = derives-unique b
+
+  pub one-scope : (a r : ℕ) {m n j k : ℕ} {p q : Bool} → ScopeAnswer b a r m p j → ScopeAnswer b a r n q k → (m ≡ n) × _≡_ {A = Bool × ℕ} (p, j) (q, k)
+  one-scope = scope-unique b
+
+  pub one-line-manager : (r : ℕ) {m n : ℕ} {x y : Manager} → ManagerAnswer b r m x → ManagerAnswer b r n y → (m ≡ n) × (x ≡ y)
+  one-line-manager = manager-answer-unique b
+
+  pub one-count-of-steps : (r : ℕ) {m n j k : ℕ} → StepsAnswer b r m j → StepsAnswer b r n k → (m ≡ n) × (j ≡ k)
+  one-count-of-steps = steps-unique b
+
+-- the same on a file, with the stretch, which is one part of the caller's own file, and a command, which leaves one buffer
+module _ (f : List ℕ) where
+  pub one-derives-on-file : (x y : ℕ) {m n : ℕ} {p q : Bool} → DerivesOnFile f x y m p → DerivesOnFile f x y n q → (m ≡ n) × (p ≡ q)
+  one-derives-on-file = derives-file-unique f
+
+  pub one-scope-on-file : (a r : ℕ) {m n j k : ℕ} {p q : Bool} → ScopeOnFile f a r m p j → ScopeOnFile f a r n q k → (m ≡ n) × _≡_ {A = Bool × ℕ} (p, j) (q, k)
+  one-scope-on-file = scope-file-unique f
+
+  pub one-line-manager-on-file : (r : ℕ) {m n : ℕ} {x y : Manager} → ManagerOnFile f r m x → ManagerOnFile f r n y → (m ≡ n) × (x ≡ y)
+  one-line-manager-on-file = manager-file-unique f
+
+  pub one-count-of-steps-on-file : (r : ℕ) {m n j k : ℕ} → StepsOnFile f r m j → StepsOnFile f r n k → (m ≡ n) × (j ≡ k)
+  one-count-of-steps-on-file = steps-file-unique f
+
+  pub one-stretch : (file-at : ℕ × ℕ) (role : ℕ) {x y : List ℕ} {p q : ℕ × ℕ} → StretchOf f file-at role x p → StretchOf f file-at role y q → (x ≡ y) × (p ≡ q)
+  one-stretch = stretch-unique f
+
+pub one-file-command : {f : List ℕ} {c : Command} {entry exit other : List ℕ} {p q : Place} {m n k l : ℕ}
+    → CommandAnswer f c entry exit p m k → CommandAnswer f c entry other q n l → (p ≡ q) × (m ≡ n) × (k ≡ l) × (exit ≡ other)
+one-file-command = command-unique
+
 pub one-reading : {f : List ℕ} {x y : Board} {m n : ℕ} → ReadAnswer f m x → ReadAnswer f n y → (m ≡ n) × (x ≡ y)
 one-reading = read-unique
+
+pub one-writing : {b : Board} {entry : List ℕ} {at m n j k : ℕ} {x y : List ℕ} → WriteAnswer b entry at x m j → WriteAnswer b entry at y n k
+    → (m ≡ n) × (j ≡ k) × (x ≡ y)
+one-writing = write-unique
 
 -- a sound board has one file, and what is written is that file; reading it gives that board; every other file is refused
 pub file-written : {b : Board} {entry exit : List ℕ} {at len : ℕ} → WriteAnswer b entry at exit 0 len → take len (drop at exit) ≡ fileOf b
@@ -87,9 +169,17 @@ module _ {b : Board} (reached : Reached b) where
   pub exactly-one-manager : (r : ℕ) → Live (tablesOf b) r → r ≢ 0 → (m : ℕ) × LineManager (tablesOf b) m r × ((n : ℕ) → LineManager (tablesOf b) n r → n ≡ m)
   exactly-one-manager = one-manager (reached-sound reached)
 
-  -- going up arrives at role 0, in one way,
+  -- role 0 has none,
+  pub root-has-no-manager : (m : ℕ) → LineManager (tablesOf b) m 0 → ⊥
+  root-has-no-manager = no-manager (reached-sound reached)
+
+  -- going up arrives at role 0, in one number of steps
   pub exactly-one-climb : (r : ℕ) → Live (tablesOf b) r → (n : ℕ) × Climb (tablesOf b) r n × ((m : ℕ) → Climb (tablesOf b) r m → m ≡ n)
   exactly-one-climb = one-climb (reached-sound reached)
+
+  -- and one way: whoever goes up meets the same roles,
+  pub exactly-one-way : {r m n : ℕ} (c : Climb (tablesOf b) r m) (d : Climb (tablesOf b) r n) → met c ≡ met d
+  exactly-one-way = one-way (reached-sound reached)
 
   -- within (live roles - 1) steps,
   pub within-live-roles : {r n : ℕ} → Climb (tablesOf b) r n → n + 1 ≤ ones (b .live)

@@ -11,7 +11,7 @@ use native.Mathlib.Omega.{arith}
 use lib.Dec.{eqb, lit<}
 use lib.ListN.{length, getD, take, drop, set, replicate, length-set, length-replicate}
 use lib.Seq.{take-add, drop-drop, getD-take, getD-set-same, getD-set-other, length-take-le}
-use Rattle.sets.specs.Sets.{bit, _∈_, same?}
+use Rattle.sets.specs.Sets.{bit, _isIn_, same?}
 use Rattle.sets.proofs.Bools.{not-so, false-no}
 use Rattle.sets.proofs.Digits.{bit-zero}
 use Rattle.sets.proofs.Laws.{same-eq, same-self, bit-lt}
@@ -154,18 +154,18 @@ module _ {f : List ℕ} {n m live k next s j d : ℕ} {i a : List ℕ} (good : G
       edge-order (w .0) (omega (arith, w .1, good .edges)) (w .2)
 
   -- it is wrong by itself
-  listed-lives : GoodRoles f n live → (r : ℕ) → Listed f r → r ∈ live
+  listed-lives : GoodRoles f n live → (r : ℕ) → Listed f r → r isIn live
   listed-lives roles r w =
       let here : w .at < n = omega (arith, good .roles) in
       let inside : w .at < length (from 64 0 (bit live)) = subst (λ (l : List ℕ). w .at < length l) (roles .bytes) (omega (arith, length-take-le n f (omega (arith, good .long)))) in
-      subst (λ (x : ℕ). x ∈ live) (ap (λ (l : List ℕ). getD l (w .at) 0) (sym (roles .bytes)) ∙ getD-take n f (w .at) 0 here ∙ w .is)
+      subst (λ (x : ℕ). x isIn live) (ap (λ (l : List ℕ). getD l (w .at) 0) (sym (roles .bytes)) ∙ getD-take n f (w .at) 0 here ∙ w .is)
       (from-at 64 0 (bit live) (w .at) inside .holds)
 
   pub edges-wrong : GoodRoles f n live → Wrong live s j d → BadRecord f
   edges-wrong roles (dead-senior h) =
-      no-senior k (omega (arith, good .edges)) (λ w. false-no h (subst (λ (x : ℕ). x ∈ live) (sym (senior-is k good spelt)) (listed-lives roles (senior f k) w)))
+      no-senior k (omega (arith, good .edges)) (λ w. false-no h (subst (λ (x : ℕ). x isIn live) (sym (senior-is k good spelt)) (listed-lives roles (senior f k) w)))
   edges-wrong roles (dead-junior h) =
-      no-junior k (omega (arith, good .edges)) (λ w. false-no h (subst (λ (x : ℕ). x ∈ live) (sym (junior-is k good spelt)) (listed-lives roles (junior f k) w)))
+      no-junior k (omega (arith, good .edges)) (λ w. false-no h (subst (λ (x : ℕ). x isIn live) (sym (junior-is k good spelt)) (listed-lives roles (junior f k) w)))
   edges-wrong roles (same h) = itself k (omega (arith, good .edges)) (sym (senior-is k good spelt) ∙ h ∙ (junior-is k good spelt))
   edges-wrong roles (unknown h) = no-kind k (omega (arith, good .edges)) (subst (λ (x : ℕ). (x < 1) ⊎ (3 < x)) (kind-is k good spelt) h)
 

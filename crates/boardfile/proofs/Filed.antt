@@ -14,8 +14,8 @@ use Rattle.hierarchy.specs.First.{First}
 use Rattle.board.specs.Boards.{tablesOf}
 use Rattle.board.specs.declared.Board.{Board}
 use Rattle.boardfile.specs.Files.{from, edge?, edgeBytes, kindAt, bytesOf, fileOf}
-use Rattle.boardfile.specs.Parts.{Put, Room}
-use Rattle.boardfile.specs.Answers.{NoRoom, NoRoom.past-end, NoRoom.too-few, PutAnswer, WriteAnswer}
+use Rattle.boardfile.specs.Parts.{Put, Room, PutAnswer}
+use Rattle.boardfile.specs.Answers.{NoRoom, NoRoom.past-end, NoRoom.too-few, WriteAnswer}
 use Rattle.boardfile.proofs.Ascending.{from-short}
 use Rattle.boardfile.proofs.Bytes.{records-length, whole-length}
 use Rattle.boardfile.proofs.Counts.{ones-from}

@@ -12,8 +12,10 @@ pub mod Puts
 pub mod Writings
 pub mod Counts
 pub mod Filed
-pub mod Stretches
+pub mod InThree
+pub mod Places
 pub mod Asking
 pub mod Fullest
 pub mod Theorems
+pub mod Commanding
 pub mod Settled

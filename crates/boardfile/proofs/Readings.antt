@@ -1,27 +1,29 @@
 -- From the parts that are read to the reader's answer. Assumes nothing.
 use mathlib.Core.Path.{_≡_, refl, sym, ap, ap₂, _∙_, subst}
 use mathlib.Core.Bool.{Bool, true, false}
-use mathlib.Core.Logic.{inl, inr, ⊎-elim, _≢_}
+use mathlib.Core.Logic.{inl, inr, ⊎-elim, _≢_, _↔_}
 use mathlib.Core.List.{List, [], _∷_, _++_, append-assoc}
 use Prim.Native.Nat.{ℕ, _+_, _*_, _/_, _%_, _^_, _≤_, _<_}
 use native.Mathlib.Omega.{arith}
-use lib.ListN.{length, drop, replicate, take-append-drop, length-drop}
+use lib.ListN.{length, drop, take-append-drop, length-drop}
 use lib.Seq.{length-take-le, drop-drop}
 use Rattle.sets.specs.Sets.{bit}
 use Rattle.sets.proofs.Bools.{lt-or-ge}
 use Rattle.sets.proofs.Digits.{bit-out}
 use Rattle.hierarchy.specs.Tables.{Tables, tables, row, Shaped, kindOf, kind}
-use Rattle.hierarchy.specs.Words.{Joined, Loops, Managed, Sound}
+use Rattle.hierarchy.specs.Words.{Joined, Loops, Managed}
 use Rattle.hierarchy.specs.First.{First}
+use Rattle.hierarchy.specs.Views.{InOrderViews, ManagedBy}
+use Rattle.hierarchy.proofs.FirstLaws.{hit, pass, none}
+use Rattle.hierarchy.proofs.Order.{order-loopless}
 use Rattle.board.specs.Boards.{tablesOf, boardOf, foundingBoard}
-use Rattle.board.specs.Looks.{Weighed}
+use Rattle.board.specs.Looks.{Viewed}
 use Rattle.board.specs.declared.Board.{Board}
-use Rattle.board.proofs.Looking.{troubles-joined, weighed-sound, no-trouble}
-use Rattle.board.proofs.Founding.{founding-sound}
+use Rattle.board.proofs.Looking.{holds, fails, managed-by, disordered-loops}
 use Rattle.boardfile.specs.Files.{from, edgeBytes, kindAt, trailer, bytesOf, fileOf}
 use Rattle.boardfile.specs.Faults.{BadFrame, BadRecord}
-use Rattle.boardfile.specs.Parts.{GoodFrame, GoodRoles, GoodEdges, Tried}
-use Rattle.boardfile.specs.Answers.{IsFile, refusals, OpenAnswer}
+use Rattle.boardfile.specs.Parts.{GoodFrame, GoodRoles, GoodEdges, Opening}
+use Rattle.boardfile.specs.Answers.{IsFile, refusals, ReadAnswer}
 use Rattle.boardfile.proofs.Bytes.{whole}
 use Rattle.boardfile.proofs.Faultless.{Tidy, good-records}
 use Rattle.boardfile.proofs.OneFile.{at-place, one-board}
@@ -100,14 +102,14 @@ module _ {f : List ℕ} {n m live : ℕ} {i a : List ℕ} (frame : GoodFrame f n
 
 -- ---- the answers
 
-module _ {f : List ℕ} {live : ℕ} {i a down up : List ℕ} where
-  pub refused-frame : BadFrame f → Tried f 10 live i a down up
+module _ {f : List ℕ} {n live : ℕ} {i a down up : List ℕ} where
+  pub refused-frame : BadFrame f → n ≡ 10 → Opening f n live i a down up
   unfolding First
-  refused-frame h = record { numbered = inl (h, refl); done = λ e. absurd (omega (arith, e)) }
+  refused-frame h e = record { numbered = inl (h, e); done = λ z. absurd (omega arith) }
 
-  pub refused-record : (BadFrame f → ⊥) → BadRecord f → Tried f 11 live i a down up
+  pub refused-record : (BadFrame f → ⊥) → BadRecord f → n ≡ 11 → Opening f n live i a down up
   unfolding First
-  refused-record g h = record { numbered = inr (g, inl (h, refl)); done = λ e. absurd (omega (arith, e)) }
+  refused-record g h e = record { numbered = inr (g, inl (h, e)); done = λ z. absurd (omega arith) }
 
 -- what a board's own trouble says of the file
 module _ {f : List ℕ} {b : Board} (number : ℕ) (frame : BadFrame f → ⊥) (record′ : BadRecord f → ⊥) (is : IsFile f b)
@@ -135,39 +137,58 @@ module _ {f : List ℕ} {b : Board} (number : ℕ) (frame : BadFrame f → ⊥) 
       loopless n w = n (subst (λ (c : Board). Loops (tablesOf c)) (one-board (w .1) is) (w .2))
 
 -- where neither frame nor record has a fault, it is the board that may be in trouble
-pub tried : {f : List ℕ} {live n m : ℕ} {i a down up : List ℕ} (number : ℕ) → GoodFrame f n m → GoodRoles f n live → GoodEdges f n m live i a
-    → Weighed (tables live i a) number down up → Tried f number live i a down up
-tried {f} {live} {i = i} {a = a} number frame roles edges w = record {
-  numbered = numbered number (frame .faultless) (faultless frame roles edges) (is-file frame roles edges) t;
-  done = λ z. (is-file frame roles edges, sound z, weighed-sound number w (sound z));
-}
-  where
-    shaped : Shaped (tables live i a)
-    shaped = is-file frame roles edges .shaped
+module _ {f : List ℕ} {live n m : ℕ} {i a old-down old-up down up : List ℕ} {order : Bool}
+    (frame : GoodFrame f n m) (roles : GoodRoles f n live) (edges : GoodEdges f n m live i a)
+    (w : InOrderViews (tables live i a) old-down old-up order down up) where
+  shaped : Shaped (tables live i a)
+  shaped = is-file frame roles edges .shaped
 
-    t : First ((7, Loops (tables live i a)) ∷ (9, (Managed (tables live i a) → ⊥)) ∷ []) number
-    t = troubles-joined number shaped (joined frame roles edges) (w .numbered)
+  abbrev Trouble : ℕ → Type 0
+  Trouble = First ((7, Loops (tables live i a)) ∷ (9, (Managed (tables live i a) → ⊥)) ∷ [])
 
-    sound : number ≡ 0 → Sound (tables live i a)
-    sound = no-trouble number w shaped (roles .root) (joined frame roles edges)
+  trouble : (number : ℕ) → Trouble number → First (refusals f) number
+  trouble number t = numbered number (frame .faultless) (faultless frame roles edges) (is-file frame roles edges) t
 
--- ---- a file opened
-
-module _ {f : List ℕ} {number live : ℕ} {i a down up : List ℕ} (t : Tried f number live i a down up) where
-  pub open-done : number ≡ 0 → OpenAnswer f number live i a down up
-  open-done z = let d = t .done z in record {
-    reading = record { numbered = t .numbered; done = λ _. (d .0, d .1); refused = λ n. absurd (n z) };
-    seen = d .2;
+  pub opened-7 : {number l : ℕ} → order ≡ false → number ≡ 7 → Opening f number l i a down up
+  opened-7 e z = record {
+    numbered = subst (First (refusals f)) (sym z) (trouble 7 (hit _ _ _ (disordered-loops shaped (joined frame roles edges) .0 (fails (w .in-order) e))));
+    done = λ k. absurd (omega arith);
   }
 
-  -- a refusal gives the founding board
-  pub open-refused : {i′ a′ down′ up′ : List ℕ} {n : ℕ} → number ≢ 0 → i′ ≡ replicate 64 0 → a′ ≡ replicate 64 0 → Weighed (tables 1 i′ a′) n down′ up′
-      → OpenAnswer f number 1 i′ a′ down′ up′
-  unfolding foundingBoard
-  open-refused {i′} {a′} {n = n} z ei ea w = record {
-    reading = record { numbered = t .numbered; done = λ e. absurd (z e); refused = λ _. founded };
-    seen = weighed-sound n w (subst (λ (b : Board). Sound (tablesOf b)) (sym founded) founding-sound);
-  }
-    where
-      founded : boardOf 1 i′ a′ ≡ foundingBoard
-      founded = ap₂ (boardOf 1) ei ea
+  module _ (e : order ≡ true) {managed : Bool} (is : (managed ≡ true) ↔ ManagedBy live down up) where
+    loopless : Loops (tables live i a) → ⊥
+    loopless = order-loopless (joined frame roles edges) .0 (holds (w .in-order) e)
+
+    pub opened-9 : {number l : ℕ} → managed ≡ false → number ≡ 9 → Opening f number l i a down up
+    opened-9 h z = record {
+      numbered = subst (First (refusals f)) (sym z) (trouble 9 (pass _ _ _ _ loopless (hit _ _ _ (λ k. fails is h (managed-by (w .views e) .1 k)))));
+      done = λ k. absurd (omega arith);
+    }
+
+    pub opened : managed ≡ true → Opening f 0 live i a down up
+    opened h = let all = managed-by (w .views e) .0 (holds is h) in record {
+      numbered = trouble 0 (pass _ _ _ _ loopless (pass _ _ _ _ (λ k. k all) none));
+      done = λ _. (
+        is-file frame roles edges,
+        record {
+          sound = record { shaped = shaped; joined = joined frame roles edges; loopless = loopless; root = roles .root; managed = all };
+          seen = w .views e;
+        },
+      );
+    }
+
+-- ---- what a file that was opened says to the rest
+
+module _ {f : List ℕ} {number live : ℕ} {i a down up : List ℕ} (o : Opening f number live i a down up) where
+  pub read-refused : number ≢ 0 → ReadAnswer f number foundingBoard
+  read-refused z = record { numbered = o .numbered; done = λ e. absurd (z e); refused = λ _. refl }
+
+  module _ (z : number ≡ 0) where
+    pub viewed : Viewed (boardOf live i a) down up
+    viewed = o .done z .1
+
+    pub passed : First (refusals f) 0
+    passed = subst (First (refusals f)) z (o .numbered)
+
+    pub read-done : ReadAnswer f 0 (boardOf live i a)
+    read-done = record { numbered = passed; done = λ _. (o .done z .0, viewed .sound); refused = λ n. absurd (n refl) }

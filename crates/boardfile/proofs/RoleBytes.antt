@@ -10,7 +10,7 @@ use native.Mathlib.Omega.{arith}
 use lib.Dec.{lit<}
 use lib.ListN.{length, getD, take}
 use lib.Seq.{take-suc, getD-take, length-take-le}
-use Rattle.sets.specs.Sets.{bit, _∈_, same?}
+use Rattle.sets.specs.Sets.{bit, _isIn_, same?}
 use Rattle.sets.proofs.Bools.{not-so, or-cases, or-right, false-no}
 use Rattle.sets.proofs.Digits.{bit-zero}
 use Rattle.sets.proofs.Laws.{same-eq, same-self}
@@ -37,7 +37,7 @@ other-kept s r x n = ap (λ (p : Bool). bit s x || p) (not-so (same? r x) (λ e.
 
 pub record SoFar (f : List ℕ) (n k next live : ℕ) : Type 0 where
   pub bytes : take k f ≡ from next 0 (bit live)
-  pub below : (x : ℕ) → x ∈ live → x < next
+  pub below : (x : ℕ) → x isIn live → x < next
   pub next-is : next ≡ past (byte f) k
   pub small : next ≤ 64
   pub fits : live < 2 ^ 64
@@ -83,7 +83,7 @@ module _ {f : List ℕ} {n k next live : ℕ} (inv : SoFar f n k next live) wher
           ∙ inv .bytes
           ∙ sym (from-end 64 next 0 (bit live) (inv .small) (λ x a b. not-so (bit live x) (λ e. absurd (omega (arith, inv .below x e)))))
 
-      root : 0 ∈ live
+      root : 0 isIn live
       root =
-          subst (λ (x : ℕ). x ∈ live) (ap (λ (l : List ℕ). getD l 0 0) (sym all) ∙ getD-take n f 0 0 l ∙ first)
+          subst (λ (x : ℕ). x isIn live) (ap (λ (l : List ℕ). getD l 0 0) (sym all) ∙ getD-take n f 0 0 l ∙ first)
           (from-at 64 0 (bit live) 0 (subst (λ (l : List ℕ). 0 < length l) all (omega (arith, length-take-le n f m))) .holds)

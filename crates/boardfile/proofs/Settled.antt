@@ -1,18 +1,25 @@
 -- Each contract of `boardfile` allows one answer: two outcomes that it allows on the same input coincide. Assumes nothing.
-use mathlib.Core.Path.{_≡_, sym, ap, _∙_, subst}
+use mathlib.Core.Path.{_≡_, refl, sym, ap, ap₂, _∙_, subst}
+use mathlib.Core.Bool.{Bool}
 use mathlib.Core.Logic.{_≢_, dite}
 use mathlib.Core.List.{List}
 use Prim.Native.Nat.{ℕ, _+_}
 use native.Mathlib.Decide.{ℕ-discrete}
+use native.Mathlib.Omega.{arith}
 use Rattle.hierarchy.specs.First.{First}
-use Rattle.hierarchy.specs.Tables.{IsTable}
-use Rattle.hierarchy.specs.Views.{AreViews}
+use Rattle.hierarchy.specs.Words.{Sound}
+use Rattle.hierarchy.proofs.ClimbLaws.{climb-unique}
 use Rattle.hierarchy.proofs.FirstLaws.{first-unique}
-use Rattle.hierarchy.proofs.ViewLaws.{views-unique}
-use Rattle.board.specs.Boards.{tablesOf, boardOf}
+use Rattle.board.specs.Boards.{tablesOf}
+use Rattle.board.specs.Commands.{Decided}
 use Rattle.board.specs.declared.Board.{Board}
-use Rattle.boardfile.specs.Files.{stretchOf, startOf}
-use Rattle.boardfile.specs.Answers.{refusals, ReadAnswer, OpenAnswer, stretchRefusals, StretchAnswer, BoundsAnswer, Placed, Unplaced, putRefusals, PutAnswer, writeRefusals, WriteAnswer}
+use Rattle.board.specs.declared.Command.{Command}
+use Rattle.board.specs.declared.questions.Manager.{Manager}
+use Rattle.board.proofs.Settled.{decided-unique, answered-unique, says-unique, counts-unique, manages-unique}
+use Rattle.boardfile.specs.declared.commands.Place.{Place}
+use Rattle.boardfile.specs.Files.{stretchOf}
+use Rattle.boardfile.specs.Answers.{refusals, ReadAnswer, askedRefusals, OfFile, DerivesOnFile, ScopeOnFile, ManagerOnFile, StepsOnFile, startOrNone, BoundsAnswer, StretchAnswer, StretchOf, writeRefusals, WriteAnswer}
+use Rattle.boardfile.specs.Answers.{CommandAnswer, CommandAnswer.unread, CommandAnswer.refused, CommandAnswer.no-room, CommandAnswer.done}
 use Rattle.boardfile.proofs.OneFile.{one-board}
 
 -- by whether the common number is 0
@@ -29,48 +36,86 @@ read-unique {f} {m} {n} r s =
           (λ z. r .refused z ∙ sym (s .refused (λ w. z (e ∙ w)))),
     )
 
--- open: the number, the board in parts, and its views
-pub open-unique : {f : List ℕ} {m n l l′ : ℕ} {i a down up i′ a′ down′ up′ : List ℕ} → IsTable down → IsTable up → IsTable down′ → IsTable up′
-    → OpenAnswer f m l i a down up → OpenAnswer f n l′ i′ a′ down′ up′ → (m ≡ n) × (boardOf l i a ≡ boardOf l′ i′ a′) × (down ≡ down′) × (up ≡ up′)
-open-unique {down′ = down′} {up′ = up′} d u d′ u′ r s =
-    let e = read-unique (r .reading) (s .reading) in
-    let v = views-unique d u d′ u′ (r .seen .views) (subst (λ (b : Board). AreViews (tablesOf b) down′ up′) (sym (e .1)) (s .seen .views)) in
-    (e .0, e .1, v .0, v .1)
-
--- put and write: the number, the length and the whole buffer
-outcome : (b : Board) (entry : List ℕ) (at m n : ℕ) {j k : ℕ} {x y : List ℕ} → m ≡ n
-    → (m ≡ 0 → Placed b entry at x j) → (m ≢ 0 → Unplaced entry x j) → (n ≡ 0 → Placed b entry at y k) → (n ≢ 0 → Unplaced entry y k)
-    → (m ≡ n) × (j ≡ k) × (x ≡ y)
-outcome b entry at m n e done refused done′ refused′ =
-    by-number m
-    (λ z. let p = done z in let q = done′ (sym e ∙ z) in (e, p .0 ∙ sym (q .0), p .1 ∙ sym (q .1)))
-    (λ z. let p = refused z in let q = refused′ (λ w. z (e ∙ w)) in (e, p .0 ∙ sym (q .0), p .1 ∙ sym (q .1)))
-
-pub put-unique : {b : Board} {entry : List ℕ} {at m n j k : ℕ} {x y : List ℕ} → PutAnswer b entry at x m j → PutAnswer b entry at y n k
-    → (m ≡ n) × (j ≡ k) × (x ≡ y)
-put-unique {b} {entry} {at} {m} {n} r s = outcome b entry at m n (first-unique (putRefusals b entry at) m n (r .numbered) (s .numbered)) (r .done) (r .refused) (s .done) (s .refused)
-
+-- write: the number, the length and the whole buffer
 pub write-unique : {b : Board} {entry : List ℕ} {at m n j k : ℕ} {x y : List ℕ} → WriteAnswer b entry at x m j → WriteAnswer b entry at y n k
     → (m ≡ n) × (j ≡ k) × (x ≡ y)
-write-unique {b} {entry} {at} {m} {n} r s = outcome b entry at m n (first-unique (writeRefusals b entry at) m n (r .numbered) (s .numbered)) (r .done) (r .refused) (s .done) (s .refused)
+write-unique {b} {entry} {at} {m} {n} r s =
+    let e = first-unique (writeRefusals b entry at) m n (r .numbered) (s .numbered) in
+    by-number m
+    (λ z. let p = r .done z in let q = s .done (sym e ∙ z) in (e, p .0 ∙ sym (q .0), p .1 ∙ sym (q .1)))
+    (λ z. let p = r .refused z in let q = s .refused (λ w. z (e ∙ w)) in (e, p .0 ∙ sym (q .0), p .1 ∙ sym (q .1)))
 
--- stretch_number
-pub stretch-number-unique : (f : List ℕ) (role m n : ℕ) → First (stretchRefusals f role) m → First (stretchRefusals f role) n → m ≡ n
-stretch-number-unique f role = first-unique (stretchRefusals f role)
+-- ---- what is asked of a file
 
--- stretch
-pub stretch-unique : {f : List ℕ} {role : ℕ} {x y : List ℕ} → StretchAnswer f role x → StretchAnswer f role y → x ≡ y
-stretch-unique {f} {role} r s =
-    let e = first-unique (stretchRefusals f role) (r .number) (s .number) (r .numbered) (s .numbered) in
-    by-number (r .number)
-    (λ z. let p = r .done z in let q = s .done (sym e ∙ z) in p .2 ∙ ap (λ (b : Board). stretchOf b role) (one-board (p .1) (q .1)) ∙ sym (q .2))
-    (λ z. r .refused z ∙ sym (s .refused (λ w. z (e ∙ w))))
+-- a file is read as one board, which is sound, so what is one for a sound board is one for a file
+of-file-unique : {A : Type 0} {f : List ℕ} {Right : Board → A → Type 0} → ((b : Board) → Sound (tablesOf b) → (v w : A) → Right b v → Right b w → v ≡ w)
+    → (v w : A) → OfFile f Right v → OfFile f Right w → v ≡ w
+of-file-unique {Right = Right} one v w p q =
+    one (q .0) (q .1 .done refl .1) v w (subst (λ (b : Board). Right b v) (read-unique (p .1) (q .1) .1) (p .2)) (q .2)
 
--- bounds
-pub bounds-unique : {f : List ℕ} {role j k m n : ℕ} → BoundsAnswer f role j m → BoundsAnswer f role k n → (j ≡ k) × (m ≡ n)
-bounds-unique {f} {role} r s =
-    let e = first-unique (stretchRefusals f role) (r .number) (s .number) (r .numbered) (s .numbered) in
-    by-number (r .number)
-    (λ z. let p = r .done z in let q = s .done (sym e ∙ z) in let same = one-board (p .1) (q .1) in
-    (p .2 ∙ ap (λ (b : Board). startOf b role) same ∙ sym (q .2), p .3 ∙ ap (λ (b : Board). startOf b (role + 1)) same ∙ sym (q .3)))
-    (λ z. let p = r .refused z in let q = s .refused (λ w. z (e ∙ w)) in (p .0 ∙ sym (q .0), p .1 ∙ sym (q .1)))
+module _ (f : List ℕ) where
+  pub check-unique : (m n : ℕ) → First (refusals f) m → First (refusals f) n → m ≡ n
+  check-unique = first-unique (refusals f)
+
+  pub derives-file-unique : (x y : ℕ) {m n : ℕ} {p q : Bool} → DerivesOnFile f x y m p → DerivesOnFile f x y n q → (m ≡ n) × (p ≡ q)
+  derives-file-unique x y = answered-unique (λ _. of-file-unique (λ _ _. says-unique))
+
+  pub scope-file-unique : (a r : ℕ) {m n j k : ℕ} {p q : Bool} → ScopeOnFile f a r m p j → ScopeOnFile f a r n q k → (m ≡ n) × _≡_ {A = Bool × ℕ} (p, j) (q, k)
+  scope-file-unique a r = answered-unique (λ _. of-file-unique (λ _ _. counts-unique))
+
+  pub manager-file-unique : (r : ℕ) {m n : ℕ} {x y : Manager} → ManagerOnFile f r m x → ManagerOnFile f r n y → (m ≡ n) × (x ≡ y)
+  manager-file-unique r = answered-unique (λ _. of-file-unique (λ b. manages-unique b r))
+
+  pub steps-file-unique : (r : ℕ) {m n j k : ℕ} → StepsOnFile f r m j → StepsOnFile f r n k → (m ≡ n) × (j ≡ k)
+  steps-file-unique r = answered-unique (λ _. of-file-unique (λ b sound j k. climb-unique sound))
+
+  -- ---- the stretch
+
+  pub stretch-number-unique : (role m n : ℕ) → First (askedRefusals f role role) m → First (askedRefusals f role role) n → m ≡ n
+  stretch-number-unique role = first-unique (askedRefusals f role role)
+
+  pub bounds-unique : (role : ℕ) {m n i j k l : ℕ} → BoundsAnswer f role m i k → BoundsAnswer f role n j l → (m ≡ n) × _≡_ {A = ℕ × ℕ} (i, k) (j, l)
+  bounds-unique role = answered-unique (λ _. of-file-unique (λ b _ v w p q. ap₂ (λ (i k : ℕ). (i, k)) (p .0 ∙ sym (q .0)) (p .1 ∙ sym (q .1))))
+
+  answer-one : (role : ℕ) {x y : List ℕ} {i j : ℕ} → StretchAnswer f role x i → StretchAnswer f role y j → (x ≡ y) × (i ≡ j)
+  answer-one role r s =
+      let e = first-unique (askedRefusals f role role) (r .number) (s .number) (r .numbered) (s .numbered) in
+      by-number (r .number)
+      (λ z. let p = r .done z in let q = s .done (sym e ∙ z) in let same = one-board (p .1) (q .1) in
+      (p .2 ∙ ap (λ (b : Board). stretchOf b role) same ∙ sym (q .2), p .3 ∙ ap (λ (b : Board). startOrNone b role) same ∙ sym (q .3)))
+      (λ z. let p = r .refused z in let q = s .refused (λ w. z (e ∙ w)) in (p .0 ∙ sym (q .0), p .1 ∙ sym (q .1)))
+
+  -- the bytes, and where they lie
+  pub stretch-unique : (file-at : ℕ × ℕ) (role : ℕ) {x y : List ℕ} {p q : ℕ × ℕ} → StretchOf f file-at role x p → StretchOf f file-at role y q → (x ≡ y) × (p ≡ q)
+  stretch-unique file-at role r s =
+      let e = answer-one role (r .1) (s .1) in
+      (e .0, ap₂ (λ (k l : ℕ). (k, l)) (r .2 ∙ sym (s .2)) (r .3 ∙ ap (λ (n : ℕ). file-at .1 + n) (e .1) ∙ sym (s .3)))
+
+-- ---- a command on a file: the place, the number, the length and the whole buffer
+
+module _ {f : List ℕ} {b d : Board} (p : ReadAnswer f 0 b) (q : ReadAnswer f 0 d) {c : Command} {x y : Board} where
+  step-unique : {m n : ℕ} → Decided b c m x → Decided d c n y → (m ≡ n) × (x ≡ y)
+  step-unique {m} h k = decided-unique (subst (λ (z : Board). Decided z c m x) (read-unique p q .1) h) k
+
+  last-unique : {entry exit other : List ℕ} {m n k l : ℕ} → Decided b c 0 x → Decided d c 0 y → WriteAnswer x entry 0 exit m k → WriteAnswer y entry 0 other n l
+      → (m ≡ n) × (k ≡ l) × (exit ≡ other)
+  last-unique {entry} {exit} {m = m} {k = k} h j v w = write-unique (subst (λ (z : Board). WriteAnswer z entry 0 exit m k) (step-unique h j .1) v) w
+
+pub command-unique : {f : List ℕ} {c : Command} {entry exit other : List ℕ} {p q : Place} {m n k l : ℕ}
+    → CommandAnswer f c entry exit p m k → CommandAnswer f c entry other q n l → (p ≡ q) × (m ≡ n) × (k ≡ l) × (exit ≡ other)
+command-unique (unread p z x) (unread q w y) = (refl, read-unique p q .0, refl, x ∙ sym y)
+command-unique (unread p z x) (refused q k w y) = absurd (z (read-unique p q .0))
+command-unique (unread p z x) (no-room q k v) = absurd (z (read-unique p q .0))
+command-unique (unread p z x) (done q k v) = absurd (z (read-unique p q .0))
+command-unique (refused p h z x) (unread q w y) = absurd (w (read-unique q p .0))
+command-unique (refused p h z x) (refused q k w y) = (refl, step-unique p q h k .0, refl, x ∙ sym y)
+command-unique (refused p h z x) (no-room q k v) = absurd (z (step-unique p q h k .0))
+command-unique (refused p h z x) (done q k v) = absurd (z (step-unique p q h k .0))
+command-unique (no-room p h u) (unread q w y) = absurd (w (read-unique q p .0))
+command-unique (no-room p h u) (refused q k w y) = absurd (w (step-unique q p k h .0))
+command-unique (no-room p h u) (no-room q k v) = (refl, refl, refl, last-unique p q h k u v .2)
+command-unique (no-room p h u) (done q k v) = let l = last-unique p q h k u v .0 in absurd (omega arith)
+command-unique (done p h u) (unread q w y) = absurd (w (read-unique q p .0))
+command-unique (done p h u) (refused q k w y) = absurd (w (step-unique q p k h .0))
+command-unique (done p h u) (no-room q k v) = let l = last-unique p q h k u v .0 in absurd (omega arith)
+command-unique (done p h u) (done q k v) = let l = last-unique p q h k u v in (refl, refl, l .1, l .2)

@@ -17,14 +17,15 @@ use Rattle.board.specs.declared.Board.{Board}
 use Rattle.board.proofs.Rules.{Passed, first-done, first-next}
 use Rattle.boardfile.specs.Files.{from, edge?, edgeBytes, kindAt, bytesOf, fileOf, stretchOf, startOf}
 use Rattle.boardfile.specs.Faults.{BadFrame, BadRecord}
-use Rattle.boardfile.specs.Answers.{IsFile, refusals, ReadAnswer, PutAnswer, writeRefusals, WriteAnswer, NoRoom.past-end}
+use Rattle.boardfile.specs.Parts.{PutAnswer}
+use Rattle.boardfile.specs.Answers.{IsFile, refusals, ReadAnswer, writeRefusals, WriteAnswer, NoRoom.past-end}
 use Rattle.boardfile.proofs.Ascending.{from-short}
 use Rattle.boardfile.proofs.Bytes.{records-length, whole-length}
 use Rattle.boardfile.proofs.Faultless.{Tidy, good-frame, good-records}
 use Rattle.boardfile.proofs.Fullest.{edges-few}
 use Rattle.boardfile.proofs.OneFile.{file-injective, one-board}
 use Rattle.boardfile.proofs.Readings.{kind-known}
-use Rattle.boardfile.proofs.Stretches.{stretch-is}
+use Rattle.boardfile.proofs.InThree.{stretch-is}
 
 -- ---- a file names its board
 

@@ -1,15 +1,24 @@
--- The refusals of the reader, the writer and the stretch, in the order they are tried, and what each answers.
+-- What the functions on a board file answer: the refusals of each in the order they are tried, and what goes with done and with a refusal.
 use mathlib.Core.Path.{_≡_}
-use mathlib.Core.Logic.{_≢_}
+use mathlib.Core.Bool.{Bool, false, cond}
+use mathlib.Core.Logic.{_⊎_, _≢_}
 use mathlib.Core.List.{List, [], _∷_, _++_}
 use Prim.Native.Nat.{ℕ, _+_, _-_, _<_}
+use lib.Dec.{eqb}
 use lib.ListN.{length, take, drop}
-use Rattle.hierarchy.specs.Tables.{tables, Live, Shaped}
-use Rattle.hierarchy.specs.Words.{Loops, Managed, Sound}
+use Rattle.sets.specs.Sets.{_isIn_}
+use Rattle.hierarchy.specs.Tables.{Shaped}
+use Rattle.hierarchy.specs.Words.{Derives, Scope, Climb, Loops, Managed, Sound}
 use Rattle.hierarchy.specs.First.{First}
-use Rattle.board.specs.Boards.{tablesOf, boardOf, foundingBoard}
-use Rattle.board.specs.Looks.{HasViews}
+use Rattle.board.specs.Boards.{tablesOf, foundingBoard}
+use Rattle.board.specs.Commands.{Decided}
+use Rattle.board.specs.Questions.{Answered, Says, Counts, Manages}
 use Rattle.board.specs.declared.Board.{Board}
+use Rattle.board.specs.declared.Command.{Command}
+use Rattle.board.specs.declared.questions.Manager.{Manager}
+use Rattle.board.specs.declared.questions.Manager.the-variants.{Nobody}
+use Rattle.boardfile.specs.declared.commands.Place.{Place}
+use Rattle.boardfile.specs.declared.commands.Place.the-variants.{Asked, File, Writing}
 use Rattle.boardfile.specs.Files.{fileOf, stretchOf, startOf}
 use Rattle.boardfile.specs.Faults.{BadFrame, BadRecord}
 
@@ -34,33 +43,56 @@ pub record ReadAnswer (f : List ℕ) (number : ℕ) (board : Board) : Type 0 whe
   pub done : number ≡ 0 → IsFile f board × Sound (tablesOf board)
   pub refused : number ≢ 0 → board ≡ foundingBoard
 
--- the same with the board in parts, and its views beside it
-pub record OpenAnswer (f : List ℕ) (number live : ℕ) (i a down up : List ℕ) : Type 0 where
-  pub reading : ReadAnswer f number (boardOf live i a)
-  pub seen : HasViews (tables live i a) down up
+-- ---- a question about the board in a file, on the roles x and y: the reader's refusals, then 2, then 3
 
--- ---- the edge records of one senior: the reader's refusals, then 2, then 3
-
-abbrev pub stretchRefusals : List ℕ → ℕ → List (ℕ × Type 0)
-stretchRefusals f role =
+abbrev pub askedRefusals : List ℕ → ℕ → ℕ → List (ℕ × Type 0)
+askedRefusals f x y =
     refusals f
-    ++ ((2, 63 < role)
-    ∷ (3, (b : Board) × IsFile f b × (Live (tablesOf b) role → ⊥))
+    ++ ((2, (63 < x) ⊎ (63 < y))
+    ∷ (3, (b : Board) × IsFile f b × ((x isIn b .live → ⊥) ⊎ (y isIn b .live → ⊥)))
     ∷ [])
 
--- no bytes where the number, whatever it is, isn't 0
-pub record StretchAnswer (f : List ℕ) (role : ℕ) (part : List ℕ) : Type 0 where
-  pub number : ℕ
-  pub numbered : First (stretchRefusals f role) number
-  pub done : number ≡ 0 → (b : Board) × IsFile f b × (part ≡ stretchOf b role)
-  pub refused : number ≢ 0 → part ≡ []
+-- what is right of the board that the file is read as
+abbrev pub OfFile : {A : Type 0} → List ℕ → (Board → A → Type 0) → A → Type 0
+OfFile f Right value = (b : Board) × ReadAnswer f 0 b × Right b value
 
--- where that part of the file begins and ends, both 0 under a refusal
-pub record BoundsAnswer (f : List ℕ) (role start end : ℕ) : Type 0 where
+-- document 01's four questions, with no, none or zero beside a refusal
+abbrev pub DerivesOnFile : List ℕ → ℕ → ℕ → ℕ → Bool → Type 0
+DerivesOnFile f x y = Answered (askedRefusals f x y) (OfFile f (λ b. Says (Derives (tablesOf b) x y))) false
+
+abbrev pub ScopeOnFile : List ℕ → ℕ → ℕ → ℕ → Bool → ℕ → Type 0
+ScopeOnFile f a r number said count = Answered (askedRefusals f a r) (OfFile f (λ b. Counts (Scope (tablesOf b) a) r)) (false, 0) number (said, count)
+
+abbrev pub ManagerOnFile : List ℕ → ℕ → ℕ → Manager → Type 0
+ManagerOnFile f r = Answered (askedRefusals f r r) (OfFile f (λ b. Manages b r)) Nobody
+
+abbrev pub StepsOnFile : List ℕ → ℕ → ℕ → ℕ → Type 0
+StepsOnFile f r = Answered (askedRefusals f r r) (OfFile f (λ b. Climb (tablesOf b) r)) 0
+
+-- ---- the edge records of one senior, with the same refusals
+
+-- A senior without an edge has no place to name, and its start is 0.
+unfoldable pub startOrNone : Board → ℕ → ℕ
+startOrNone b role = cond (eqb (length (stretchOf b role)) 0) 0 (startOf b role)
+
+-- where they begin in the file, and how many bytes they are
+abbrev pub Stands : ℕ → Board → ℕ × ℕ → Type 0
+Stands role b place = (place .0 ≡ startOrNone b role) × (place .1 ≡ length (stretchOf b role))
+
+abbrev pub BoundsAnswer : List ℕ → ℕ → ℕ → ℕ → ℕ → Type 0
+BoundsAnswer f role number start len = Answered (askedRefusals f role role) (OfFile f (Stands role)) (0, 0) number (start, len)
+
+-- the records themselves, and where they begin; no bytes where the number, whatever it is, isn't 0
+pub record StretchAnswer (f : List ℕ) (role : ℕ) (part : List ℕ) (start : ℕ) : Type 0 where
   pub number : ℕ
-  pub numbered : First (stretchRefusals f role) number
-  pub done : number ≡ 0 → (b : Board) × IsFile f b × (start ≡ startOf b role) × (end ≡ startOf b (role + 1))
-  pub refused : number ≢ 0 → (start ≡ 0) × (end ≡ 0)
+  pub numbered : First (askedRefusals f role role) number
+  pub done : number ≡ 0 → (b : Board) × IsFile f b × (part ≡ stretchOf b role) × (start ≡ startOrNone b role)
+  pub refused : number ≢ 0 → (part ≡ []) × (start ≡ 0)
+
+-- They are a part of the caller's own file: `part-at` and `file-at` are where the two lie in memory, a block and a place in it.
+abbrev pub StretchOf : List ℕ → ℕ × ℕ → ℕ → List ℕ → ℕ × ℕ → Type 0
+StretchOf f file-at role part part-at =
+    (start : ℕ) × StretchAnswer f role part start × (part-at .0 ≡ file-at .0) × (part-at .1 ≡ file-at .1 + start)
 
 -- ---- writing to a place of a buffer
 
@@ -76,20 +108,20 @@ Placed b entry at exit len = (len ≡ length (fileOf b)) × (exit ≡ take at en
 abbrev pub Unplaced : List ℕ → List ℕ → ℕ → Type 0
 Unplaced entry exit len = (len ≡ 0) × (exit ≡ entry)
 
-abbrev pub putRefusals : Board → List ℕ → ℕ → List (ℕ × Type 0)
-putRefusals b entry at = (12, NoRoom b entry at) ∷ []
-
--- any board, sound or not: done puts the file there, a refusal changes nothing
-pub record PutAnswer (b : Board) (entry : List ℕ) (at : ℕ) (exit : List ℕ) (number len : ℕ) : Type 0 where
-  pub numbered : First (putRefusals b entry at) number
-  pub done : number ≡ 0 → Placed b entry at exit len
-  pub refused : number ≢ 0 → Unplaced entry exit len
-
 abbrev pub writeRefusals : Board → List ℕ → ℕ → List (ℕ × Type 0)
-writeRefusals b entry at = (1, (Sound (tablesOf b) → ⊥)) ∷ putRefusals b entry at
+writeRefusals b entry at = (1, (Sound (tablesOf b) → ⊥)) ∷ (12, NoRoom b entry at) ∷ []
 
--- the same for a sound board, and every other refused first
 pub record WriteAnswer (b : Board) (entry : List ℕ) (at : ℕ) (exit : List ℕ) (number len : ℕ) : Type 0 where
   pub numbered : First (writeRefusals b entry at) number
   pub done : number ≡ 0 → Placed b entry at exit len
   pub refused : number ≢ 0 → Unplaced entry exit len
+
+-- ---- a command on the board in a file: read, decided, and written to the start of a buffer
+
+-- Where the number arose: a refusal of the file, of the command on its board, or of the writing; done is the command's. The buffer
+-- holds `entry` before the call and `exit` after it, and every refusal leaves it.
+pub data CommandAnswer (f : List ℕ) (c : Command) (entry exit : List ℕ) : Place → ℕ → ℕ → Type 0 where
+  unread : {number : ℕ} {b : Board} → ReadAnswer f number b → number ≢ 0 → exit ≡ entry → CommandAnswer f c entry exit File number 0
+  refused : {number : ℕ} {b next : Board} → ReadAnswer f 0 b → Decided b c number next → number ≢ 0 → exit ≡ entry → CommandAnswer f c entry exit Asked number 0
+  no-room : {b next : Board} → ReadAnswer f 0 b → Decided b c 0 next → WriteAnswer next entry 0 exit 12 0 → CommandAnswer f c entry exit Writing 12 0
+  done : {len : ℕ} {b next : Board} → ReadAnswer f 0 b → Decided b c 0 next → WriteAnswer next entry 0 exit 0 len → CommandAnswer f c entry exit Asked 0 len

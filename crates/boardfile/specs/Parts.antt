@@ -5,20 +5,20 @@ use mathlib.Core.Logic.{_≢_, _⊎_}
 use mathlib.Core.List.{List, [], _∷_, _++_}
 use Prim.Native.Nat.{ℕ, _+_, _-_, _*_, _/_, _%_, _^_, _≤_, _<_}
 use lib.ListN.{length, take, drop}
-use Rattle.sets.specs.Sets.{bit, _∈_}
+use Rattle.sets.specs.Sets.{bit, _isIn_}
 use Rattle.hierarchy.specs.Tables.{tables, IsTable, kindOf}
 use Rattle.hierarchy.specs.First.{First}
-use Rattle.hierarchy.specs.Words.{Sound}
 use Rattle.board.specs.Boards.{tablesOf, boardOf}
-use Rattle.board.specs.Looks.{HasViews}
+use Rattle.board.specs.Looks.{Viewed}
+use Rattle.board.specs.Questions.{misnamed, Answered}
 use Rattle.board.specs.declared.Board.{Board}
 use Rattle.boardfile.specs.declared.frame.Framed.{Framed}
 use Rattle.boardfile.specs.declared.frame.Framed.the-variants.{Good, Bad}
 use Rattle.boardfile.specs.declared.reader.Roles.{Roles}
 use Rattle.boardfile.specs.declared.reader.Roles.the-variants.{Live, Unlisted}
 use Rattle.boardfile.specs.Files.{from, edgeBytes, kindAt, trailer}
-use Rattle.boardfile.specs.Answers.{IsFile, refusals}
-use Rattle.boardfile.specs.Faults.{byte, roleCount, edgeCount, senior, BadFrame, BadRecord}
+use Rattle.boardfile.specs.Answers.{IsFile, refusals, Stands, NoRoom, Placed, Unplaced}
+use Rattle.boardfile.specs.Faults.{byte, roleCount, edgeCount, BadFrame, BadRecord}
 
 -- ---- the frame
 
@@ -44,7 +44,7 @@ Framing f Bad = BadFrame f
 
 pub record GoodRoles (f : List ℕ) (n live : ℕ) : Type 0 where
   pub bytes : take n f ≡ from 64 0 (bit live)
-  pub root : 0 ∈ live
+  pub root : 0 isIn live
   pub fits : live < 2 ^ 64
 
 abbrev pub Listing : List ℕ → ℕ → Roles → Type 0
@@ -60,8 +60,8 @@ pub record Spelt (f : List ℕ) (at s j k : ℕ) : Type 0 where
   pub small : (s < 256) × (j < 256)
 
 pub record Right (live s j k : ℕ) : Type 0 where
-  pub senior-lives : s ∈ live
-  pub junior-lives : j ∈ live
+  pub senior-lives : s isIn live
+  pub junior-lives : j isIn live
   pub apart : s ≢ j
   pub known : (1 ≤ k) × (k ≤ 3)
 
@@ -95,10 +95,10 @@ Entering f n m live false i a = BadRecord f
 
 -- ---- the parts together
 
--- a file tried: its refusal, or its board in parts, with the views
-pub record Tried (f : List ℕ) (number live : ℕ) (i a down up : List ℕ) : Type 0 where
+-- a file opened: its refusal, or its board in parts, which is sound, with the views
+pub record Opening (f : List ℕ) (number live : ℕ) (i a down up : List ℕ) : Type 0 where
   pub numbered : First (refusals f) number
-  pub done : number ≡ 0 → IsFile f (boardOf live i a) × Sound (tables live i a) × HasViews (tables live i a) down up
+  pub done : number ≡ 0 → IsFile f (boardOf live i a) × Viewed (boardOf live i a) down up
 
 -- ---- what the parts of the writer do
 
@@ -120,15 +120,13 @@ pub record Room (b : Board) (roles edges : ℕ) (out : List ℕ) : Type 0 where
   pub edge-bytes : edges ≡ length (edgeBytes (kindAt (tablesOf b)) 4096 0)
   pub enough : roles + edges + 6 ≤ length out
 
--- ---- what the parts of the stretch find
+-- the file of any board, put from a place on, where there is room
+pub record PutAnswer (b : Board) (entry : List ℕ) (at : ℕ) (exit : List ℕ) (number len : ℕ) : Type 0 where
+  pub numbered : First ((12, NoRoom b entry at) ∷ []) number
+  pub done : number ≡ 0 → Placed b entry at exit len
+  pub refused : number ≢ 0 → Unplaced entry exit len
 
--- the first r of m edge records are those with a senior below s
-pub record Below (f : List ℕ) (m s r : ℕ) : Type 0 where
-  pub within : r ≤ m
-  pub lower : (k : ℕ) → k < r → senior f k < s
-  pub upper : r < m → s ≤ senior f r
+-- ---- what the stretch finds in the tables of a board
 
--- the number of a stretch, by what the reader answered: its refusal, or else 2, or 3, or none
-pub record Asked (number live role r : ℕ) : Type 0 where
-  pub kept : number ≢ 0 → r ≡ number
-  pub own : number ≡ 0 → First ((2, 63 < role) ∷ (3, (role ∈ live → ⊥)) ∷ []) r
+abbrev pub PlaceAnswer : Board → ℕ → ℕ → ℕ → ℕ → Type 0
+PlaceAnswer b role number start len = Answered (misnamed (b .live) role role) (Stands role b) (0, 0) number (start, len)

@@ -6,7 +6,7 @@ ghost use Prim.Native.Nat.{ℕ, _+_, _≤_};
 ghost use lib.ListN.{length, replicate};
 ghost use Rattle.sets.specs.Sets.{bit, same?};
 ghost use Rattle.boardfile.specs.Faults.{roleCount};
-ghost use Rattle.boardfile.specs.Parts.{Listing, Spelt, Judged, GoodFrame, GoodRoles, Entering, Below};
+ghost use Rattle.boardfile.specs.Parts.{Listing, Spelt, Judged, GoodFrame, GoodRoles, Entering};
 use sets::has;
 use sets::with;
 
@@ -115,20 +115,4 @@ pub(crate) fn edges(
         k += 1;
     }
     true
-}
-
-// How many edge records have a senior below this one; they ascend, so these stand first.
-pub(crate) fn below(file: &[u8], n: usize, m: usize, senior: usize) -> usize
-    requires { ⌜ GoodFrame (now file) n m ⌝ }
-    ensures { λ r. ⌜ Below (now (file .entry)) m senior r ⌝ }
-{
-    let mut k: usize = 0;
-    while k < m {
-        let e = record(file, n + 3 * k);
-        if senior <= e.senior {
-            return k;
-        }
-        k += 1;
-    }
-    k
 }

@@ -6,8 +6,10 @@ ghost use Rattle.sets.specs.Sets.{bit};
 ghost use Rattle.hierarchy.specs.Tables.{kindOf};
 ghost use Rattle.board.specs.Boards.{tablesOf, boardOf};
 ghost use Rattle.boardfile.specs.Files.{from, edge?, edgeBytes, kindAt, trailer, fileOf};
-ghost use Rattle.boardfile.specs.Parts.{kindsIn, rowBytes, Put, Room};
+ghost use Rattle.boardfile.specs.Parts.{kindsIn, rowBytes, Put, Room, PutAnswer};
+use crate::Written;
 use crate::frame::MARK;
+use crate::frame::TRAILER;
 use board::Board;
 use sets::Pick;
 use sets::but_lowest;
@@ -16,13 +18,11 @@ use sets::lowest;
 use sets::size;
 use sets::union;
 
-// How many edges have a senior below this one; 0 for a number above 64.
-pub fn edges_below<'t>(i: &'t [u64; 64], a: &'t [u64; 64], senior: usize) -> usize
-    ensures { λ r. ⌜ (senior ≤ 64 → r ≡ length (from (senior * 64) 0 (edge? (kindsIn (now (i .entry)) (now (a .entry)))))) × (64 < senior → r ≡ 0) ⌝ }
+// How many edges have a senior below this one.
+pub(crate) fn edges_below<'t>(i: &'t [u64; 64], a: &'t [u64; 64], senior: usize) -> usize
+    requires { ⌜ senior ≤ 64 ⌝ }
+    ensures { λ r. ⌜ r ≡ length (from (senior * 64) 0 (edge? (kindsIn (now (i .entry)) (now (a .entry))))) ⌝ }
 {
-    if 64 < senior {
-        return 0;
-    }
     let mut n: usize = 0;
     let mut x: usize = 0;
     while x < senior {
@@ -40,7 +40,7 @@ pub fn edge_count(b: Board) -> usize
 }
 
 // The bytes of the live roles.
-pub(crate) fn put_roles(live: u64, out: &mut [u8])
+fn put_roles(live: u64, out: &mut [u8])
     requires { ⌜ length (from 64 0 (bit live)) ≤ length (now out) ⌝ }
     ensures { λ _. ⌜ Put (from 64 0 (bit live)) (now (out .entry)) (now (out .exit)) ⌝ }
 {
@@ -92,7 +92,7 @@ fn put_row(senior: usize, i: u64, a: u64, out: &mut [u8]) -> usize
 }
 
 // All edge records.
-pub(crate) fn put_edges<'t>(i: &'t [u64; 64], a: &'t [u64; 64], out: &mut [u8])
+fn put_edges<'t>(i: &'t [u64; 64], a: &'t [u64; 64], out: &mut [u8])
     requires { ⌜ length (edgeBytes (kindsIn (now i) (now a)) 4096 0) ≤ length (now out) ⌝ }
     ensures { λ _. ⌜ Put (edgeBytes (kindsIn (now (i .entry)) (now (a .entry))) 4096 0) (now (out .entry)) (now (out .exit)) ⌝ }
 {
@@ -105,7 +105,7 @@ pub(crate) fn put_edges<'t>(i: &'t [u64; 64], a: &'t [u64; 64], out: &mut [u8])
 }
 
 // The trailer, by its two distances.
-pub(crate) fn put_trailer(edges: usize, roles: usize, out: &mut [u8])
+fn put_trailer(edges: usize, roles: usize, out: &mut [u8])
     requires { ⌜ (edges < 65536) × (roles < 65536) × (6 ≤ length (now out)) ⌝ }
     ensures { λ _. ⌜ Put (trailer edges roles) (now (out .entry)) (now (out .exit)) ⌝ }
 {
@@ -118,7 +118,7 @@ pub(crate) fn put_trailer(edges: usize, roles: usize, out: &mut [u8])
 }
 
 // The whole file of a board that has so many role bytes and so many bytes of edge records.
-pub(crate) fn put_file<'t>(
+fn put_file<'t>(
     live: u64,
     i: &'t [u64; 64],
     a: &'t [u64; 64],
@@ -133,4 +133,24 @@ pub(crate) fn put_file<'t>(
     put_roles(live, &mut out[0..roles]);
     put_edges(i, a, &mut out[roles..body]);
     put_trailer(edges, body, &mut out[body..]);
+}
+
+// The file of the board of these tables, sound or not, into a buffer, from a place on.
+pub(crate) fn put<'t>(
+    live: u64,
+    i: &'t [u64; 64],
+    a: &'t [u64; 64],
+    out: &mut [u8],
+    at: usize,
+) -> Written
+    ensures { λ r. ⌜ PutAnswer (boardOf live (now (i .entry)) (now (a .entry))) (now (out .entry)) at (now (out .exit)) (r .number) (r .len) ⌝ }
+{
+    let roles = size(live) as usize;
+    let edges = 3 * edges_below(i, a, 64);
+    let len = roles + edges + TRAILER;
+    if out.len() < at || out.len() - at < len {
+        return Written { number: 12, len: 0 };
+    }
+    put_file(live, i, a, roles, edges, &mut out[at..]);
+    Written { number: 0, len }
 }

@@ -20,7 +20,7 @@ fn number(n: u64) {
 }
 
 // The line of one role.
-fn list(b: Board, role: u8) {
+fn list(b: Board, role: u32) {
     number(role as u64);
     say(b" ");
     let answer = line_manager(b, role);
@@ -41,7 +41,7 @@ fn list_all(b: Board) {
         let Pick::Role(role) = lowest(rest) else {
             return;
         };
-        list(b, role as u8);
+        list(b, role as u32);
         rest = without(rest, role);
     }
 }

@@ -11,6 +11,7 @@ use Rattle.sets.specs.Sets.{bit}
 use Rattle.sets.proofs.Bools.{or-cases, lt-or-ge, not-so, false-no}
 use Rattle.sets.proofs.Laws.{bit-lt}
 use Rattle.hierarchy.specs.Tables.{Shaped}
+use Rattle.hierarchy.specs.Words.{Scope, Loops}
 use Rattle.hierarchy.specs.First.{First}
 use Rattle.hierarchy.proofs.FirstLaws.{pass, hit, none}
 use Rattle.hierarchy.proofs.Checks.{all-is, any-is, and-is, or-is, if-is, not-is, eq-is, lt-is}
@@ -133,12 +134,12 @@ module _ (b : Board) {c : Command} (fits : Fits c) (well : Malformed c → ⊥) 
         λ m. i .1 (m .who, (m .is-needed, false-no (m .absent))),
       )
 
-  inScope-is : Shaped (tablesOf b) → (inScope? b c ≡ true) ↔ InScope b c
+  inScope-is : Shaped (tablesOf b) → (inScope? b c ≡ true) ↔ InScope (Scope (tablesOf b)) c
   unfolding inScope?
   inScope-is s =
       let i = all-is 64 (λ x. and-is (if-is (is (scoped c x)) (scope-is s (c .actor) x)) (λ _. if-is (is (strictly c x)) (admin-is s (c .actor) x))) in (
-        λ e. let h = i .0 e in record { scope = λ x d. h x (scoped-lt fits well x d) .0 d; strict = λ x d. h x (strictly-lt fits well x d) .1 d },
-        λ h. i .1 (λ x _. (h .scope x, h .strict x)),
+        λ e. let h = i .0 e in record { scope = λ x d. h x (scoped-lt fits well x d) .0 d; strict = λ x d. let m = h x (strictly-lt fits well x d) .1 d in (m .scope, m .strict) },
+        λ h. i .1 (λ x _. (h .scope x, λ d. let m = h .strict x d in record { scope = m .0; strict = m .1 })),
       )
 
 -- ---- all rows
@@ -148,7 +149,7 @@ tried : (k n : ℕ) (rest : List (ℕ × Type 0)) {X : Type 0} {p : Bool} → (p
 tried k n rest {X} {p = true} d f = hit k X rest (d .0 refl)
 tried k n rest {X} {p = false} d f = let fails : X → ⊥ = λ x. false≢true (d .1 x) in pass k X rest n fails (f fails)
 
-afterwards-is : (b : Board) (c : Command) → Shaped (tablesOf b) → First (afterwards b c) (first? (afterwards? b c))
+afterwards-is : (b : Board) (c : Command) → Shaped (tablesOf b) → First (afterwards Loops b c) (first? (afterwards? b c))
 unfolding first?
 afterwards-is b c s =
     tried 7 _ _ (loops-is s) (λ _.
@@ -165,4 +166,4 @@ answer-is b c fits =
     tried 4 _ _ (standing-is b c) (λ _.
     tried 5 _ _ (noEdge-is b c) (λ _.
     tried 6 _ _ (not-is (inScope-is b fits well s)) (λ _.
-    subst (λ d. First (afterwards (after b c) c) (first? (afterwards? d c))) (sym (left-is b c s)) (afterwards-is (after b c) c (shaped-after b c))))))))
+    subst (λ d. First (afterwards Loops (after b c) c) (first? (afterwards? d c))) (sym (left-is b c s)) (afterwards-is (after b c) c (shaped-after b c))))))))

@@ -1,13 +1,13 @@
 -- Document 01's examples in one table, the marked ones and the others. An entry is a stage, which stands for a board, and a fact:
 -- what it says of that board, in the words of the definitions. Each has a test that can be run.
--- `Rattle.examples.proofs.Holding` has the theorem: every entry holds.
+-- `Rattle.examples.proofs.Theorem` has the theorem: every entry holds.
 use mathlib.Core.Path.{_≡_}
 use mathlib.Core.Logic.{_↔_}
 use mathlib.Core.Bool.{Bool, true, false, not, _&&_, Bool·beq}
 use mathlib.Core.List.{List, [], _∷_}
 use Prim.Native.Nat.{ℕ, zero, suc}
 use lib.Dec.{eqb}
-use Rattle.sets.specs.Sets.{_∈_, setOf}
+use Rattle.sets.specs.Sets.{_isIn_, setOf}
 use Rattle.hierarchy.specs.Tables.{Tables}
 use Rattle.hierarchy.specs.Words.{Derives, Scope, Administrator, LineManager, Loops, Sound, Climb}
 use Rattle.hierarchy.specs.First.{First}
@@ -49,7 +49,7 @@ Holds b sound = Sound (tablesOf b)
 Holds b (derives x y true) = Derives (tablesOf b) x y
 Holds b (derives x y false) = Derives (tablesOf b) x y → ⊥
 -- the scope of a is just this set
-Holds b (scope a set) = (r : ℕ) → Scope (tablesOf b) a r ↔ (r ∈ set)
+Holds b (scope a set) = (r : ℕ) → Scope (tablesOf b) a r ↔ (r isIn set)
 -- the line manager of r is m
 Holds b (manager r m) = LineManager (tablesOf b) m r
 -- from r up to role 0 by line managers it is n steps

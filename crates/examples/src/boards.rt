@@ -47,11 +47,11 @@ pub(crate) fn l() -> Board
 }
 
 fn command(
-    code: u8,
-    actor: u8,
-    role: u8,
-    junior: u8,
-    kind: u8,
+    code: u32,
+    actor: u32,
+    role: u32,
+    junior: u32,
+    kind: u32,
     a_seniors: u64,
     i_seniors: u64,
 ) -> Command
@@ -70,25 +70,25 @@ fn command(
     }
 }
 
-pub(crate) fn add_role(actor: u8, role: u8, a_seniors: u64, i_seniors: u64) -> Command
+pub(crate) fn add_role(actor: u32, role: u32, a_seniors: u64, i_seniors: u64) -> Command
     ensures { λ r. ⌜ r ≡ addRole actor role «a_seniors» «i_seniors» ⌝ }
 {
     command(1, actor, role, 0, 0, a_seniors, i_seniors)
 }
 
-pub(crate) fn remove_role(actor: u8, role: u8) -> Command
+pub(crate) fn remove_role(actor: u32, role: u32) -> Command
     ensures { λ r. ⌜ r ≡ removeRole actor role ⌝ }
 {
     command(2, actor, role, 0, 0, 0, 0)
 }
 
-pub(crate) fn add_edge(actor: u8, senior: u8, junior: u8, kind: u8) -> Command
+pub(crate) fn add_edge(actor: u32, senior: u32, junior: u32, kind: u32) -> Command
     ensures { λ r. ⌜ r ≡ addEdge actor senior junior kind ⌝ }
 {
     command(3, actor, senior, junior, kind, 0, 0)
 }
 
-pub(crate) fn change_edge(actor: u8, senior: u8, junior: u8, kind: u8) -> Command
+pub(crate) fn change_edge(actor: u32, senior: u32, junior: u32, kind: u32) -> Command
     ensures { λ r. ⌜ r ≡ changeEdge actor senior junior kind ⌝ }
 {
     command(5, actor, senior, junior, kind, 0, 0)

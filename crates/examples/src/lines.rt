@@ -10,20 +10,22 @@ use board::commands::step;
 use board::effects::after;
 use board::questions;
 use board::questions::Manager;
+use hierarchy::scopes::managed;
+use hierarchy::views::views_in_order;
 use sets::has;
 
 fn text(s: &[u8]) {
     io::write_all(1, s);
 }
 
-fn number(n: u8) {
+fn number(n: u32) {
     io::print_decimal(1, n as u64);
 }
 
 // The number of a refusal, at the end of a line.
 fn refused(n: u8) {
     text(b"refused ");
-    number(n);
+    number(n as u32);
     text(b"\n");
 }
 
@@ -40,7 +42,7 @@ fn roles(s: u64) {
     if s == 0 {
         text(b" -");
     }
-    let mut r: u8 = 0;
+    let mut r: u32 = 0;
     while r < 64 {
         if has(s, r as usize) {
             text(b" ");
@@ -58,7 +60,7 @@ pub(crate) fn sound(name: &[u8], b: Board) {
     yes_or_no(checks::sound(b));
 }
 
-pub(crate) fn derives(name: &[u8], b: Board, x: u8, y: u8) {
+pub(crate) fn derives(name: &[u8], b: Board, x: u32, y: u32) {
     text(name);
     text(b": ");
     number(x);
@@ -74,8 +76,8 @@ pub(crate) fn derives(name: &[u8], b: Board, x: u8, y: u8) {
 }
 
 // The roles in the scope of a, asked about one by one, a space before each.
-fn members(b: Board, a: u8) {
-    let mut r: u8 = 0;
+fn members(b: Board, a: u32) {
+    let mut r: u32 = 0;
     while r < 64 {
         let asked = questions::scope(b, a, r);
         if asked.yes {
@@ -87,7 +89,7 @@ fn members(b: Board, a: u8) {
 }
 
 // The scope of a, and its size in brackets.
-pub(crate) fn scope(name: &[u8], b: Board, a: u8) {
+pub(crate) fn scope(name: &[u8], b: Board, a: u32) {
     text(name);
     text(b": scope of ");
     number(a);
@@ -99,7 +101,7 @@ pub(crate) fn scope(name: &[u8], b: Board, a: u8) {
     text(b")\n");
 }
 
-pub(crate) fn manager(name: &[u8], b: Board, r: u8) {
+pub(crate) fn manager(name: &[u8], b: Board, r: u32) {
     text(name);
     text(b": line manager of ");
     number(r);
@@ -114,11 +116,11 @@ pub(crate) fn manager(name: &[u8], b: Board, r: u8) {
         text(b"none\n");
         return;
     };
-    number(x);
+    number(x as u32);
     text(b"\n");
 }
 
-pub(crate) fn steps(name: &[u8], b: Board, r: u8) {
+pub(crate) fn steps(name: &[u8], b: Board, r: u32) {
     text(name);
     text(b": steps from ");
     number(r);
@@ -138,18 +140,18 @@ pub(crate) fn steps(name: &[u8], b: Board, r: u8) {
 fn run(b: Board, c: Command) -> Board {
     let o = step(b, c);
     text(b": ");
-    number(o.number);
+    number(o.number as u32);
     text(b"\n");
     o.board
 }
 
-fn actor(name: &[u8], a: u8) {
+fn actor(name: &[u8], a: u32) {
     text(name);
     text(b": actor ");
     number(a);
 }
 
-fn edge(senior: u8, junior: u8, kind: u8) {
+fn edge(senior: u32, junior: u32, kind: u32) {
     number(senior);
     text(b" to ");
     number(junior);
@@ -160,8 +162,8 @@ fn edge(senior: u8, junior: u8, kind: u8) {
 pub(crate) fn add_role(
     name: &[u8],
     b: Board,
-    a: u8,
-    role: u8,
+    a: u32,
+    role: u32,
     a_seniors: u64,
     i_seniors: u64,
 ) -> Board {
@@ -175,36 +177,57 @@ pub(crate) fn add_role(
     run(b, boards::add_role(a, role, a_seniors, i_seniors))
 }
 
-pub(crate) fn remove_role(name: &[u8], b: Board, a: u8, role: u8) -> Board {
+pub(crate) fn remove_role(name: &[u8], b: Board, a: u32, role: u32) -> Board {
     actor(name, a);
     text(b" removes role ");
     number(role);
     run(b, boards::remove_role(a, role))
 }
 
-pub(crate) fn add_edge(name: &[u8], b: Board, a: u8, senior: u8, junior: u8, kind: u8) -> Board {
+pub(crate) fn add_edge(
+    name: &[u8],
+    b: Board,
+    a: u32,
+    senior: u32,
+    junior: u32,
+    kind: u32,
+) -> Board {
     actor(name, a);
     text(b" adds ");
     edge(senior, junior, kind);
     run(b, boards::add_edge(a, senior, junior, kind))
 }
 
-pub(crate) fn change_edge(name: &[u8], b: Board, a: u8, senior: u8, junior: u8, kind: u8) -> Board {
+pub(crate) fn change_edge(
+    name: &[u8],
+    b: Board,
+    a: u32,
+    senior: u32,
+    junior: u32,
+    kind: u32,
+) -> Board {
     actor(name, a);
     text(b" changes ");
     edge(senior, junior, kind);
     run(b, boards::change_edge(a, senior, junior, kind))
 }
 
-// What is wrong with the board that a command would leave.
+// What is wrong with the board that a command would leave. Its entries join live roles, so what is not in order is a loop.
 pub(crate) fn trouble(name: &[u8], b: Board, c: Command) {
     text(name);
     text(b": trouble: ");
     let next = after(b, c);
     let mut down = [0u64; 64];
     let mut up = [0u64; 64];
-    number(checks::trouble(next.live, &next.i, &next.a, &mut down, &mut up));
-    text(b"\n");
+    if !views_in_order(next.live, &next.i, &next.a, &mut down, &mut up) {
+        text(b"a role that reaches itself\n");
+        return;
+    }
+    if !managed(next.live, &down, &up) {
+        text(b"a role without an administrator\n");
+        return;
+    }
+    text(b"none\n");
 }
 
 // Whether the two tables are the same.

@@ -67,17 +67,19 @@ fn edges_on_w() {
     lines::change_edge(b"W with 2 I 3", more, 0, 2, 3, 2);
 }
 
-// Role 63 is in range and 64 is not, in each field that names a role.
+// Role 63 is in range and 64 is not, in each field that names a role; and 257 is not role 1.
 fn range_of_roles() {
     let b = p();
     lines::add_role(b"P", b, 0, 63, 0, 0b10);
     lines::add_role(b"P", b, 0, 64, 0, 0b10);
     lines::remove_role(b"P", b, 63, 1);
     lines::remove_role(b"P", b, 64, 1);
+    lines::remove_role(b"P", b, 0, 257);
     lines::add_edge(b"P", b, 0, 0, 63, 1);
     lines::add_edge(b"P", b, 0, 0, 64, 1);
     lines::derives(b"P", b, 0, 63);
     lines::derives(b"P", b, 0, 64);
+    lines::derives(b"P", b, 0, 257);
 }
 
 // Kinds are 1 to 3.

@@ -1,5 +1,5 @@
 -- The climb from a role to role 0 by line managers. Assumes nothing.
-use mathlib.Core.Path.{_≡_, refl, sym, _∙_, ap, subst}
+use mathlib.Core.Path.{_≡_, refl, sym, _∙_, ap, ap₂, subst}
 use mathlib.Core.Logic.{_≢_, dite}
 use mathlib.Core.Bool.{not}
 use mathlib.Core.List.{List, [], _∷_}
@@ -9,7 +9,7 @@ use native.Mathlib.Decide.{ℕ-discrete}
 use native.Mathlib.Omega.{arith}
 use lib.Count.{ones}
 use lib.ListN.{length}
-use Rattle.sets.specs.Sets.{bit, _∈_, same?}
+use Rattle.sets.specs.Sets.{bit, _isIn_, same?}
 use Rattle.sets.proofs.Bools.{and-both, not-so}
 use Rattle.sets.proofs.Laws.{bit-lt, same-eq, setOf-fits, ones-less, but, bit-but}
 use Rattle.hierarchy.specs.Tables.{Tables, Live}
@@ -63,7 +63,7 @@ module _ {t : Tables} (sound : Sound t) where
   -- ---- a climb for each role
 
   -- s holds r and all that reaches r: a climb has fewer steps than s has members
-  climb-in : (k s r : ℕ) → ones s ≤ k → s < 2 ^ 64 → r ∈ s → ((x : ℕ) → Reaches t x r → x ∈ s) → Live t r → (n : ℕ) × Climb t r n × (n < ones s)
+  climb-in : (k s r : ℕ) → ones s ≤ k → s < 2 ^ 64 → r isIn s → ((x : ℕ) → Reaches t x r → x isIn s) → Live t r → (n : ℕ) × Climb t r n × (n < ones s)
   climb-in zero s r o h m f l = absurd (omega (arith, ones-less s (but s r) r (bit-lt 64 h m) m (bit-but s r h)))
   climb-in (suc k) s r o h m f l =
       let less = ones-less s (but s r) r (bit-lt 64 h m) m (bit-but s r h) in
@@ -75,7 +75,7 @@ module _ {t : Tables} (sound : Sound t) where
       let c = climb-in k (but s r) (b .0) (omega arith) (setOf-fits _) (rest (b .0) w) (λ x v. rest x (reaches-trans v w)) (admin-live (b .1 .admin)) in
       (suc (c .0), up (b .1) (c .1), omega arith))
     where
-      rest : (x : ℕ) → Reaches t x r → x ∈ but s r
+      rest : (x : ℕ) → Reaches t x r → x isIn but s r
       rest x w =
           bit-but s r h x
           ∙ and-both (bit s x) _ (f x w) (ap not (not-so (same? r x) (λ q. sound .loopless (r, subst (λ y. Reaches t y r) (same-eq r x q) w))))
@@ -105,6 +105,14 @@ module _ {t : Tables} (sound : Sound t) where
   climb-unique (up h c) top = absurd (no-senior _ (admin-reaches (h .admin)))
   climb-unique (up h c) (up {n = n} g d) =
       ap suc (climb-unique c (subst (λ m. Climb t m n) (manager-unique (sound .loopless) g h) d))
+
+  -- Nor is there another way: two climbs meet the same roles.
+  pub met-unique : {r s m n : ℕ} (c : Climb t r m) (d : Climb t s n) → r ≡ s → met c ≡ met d
+  unfolding met
+  met-unique top top e = refl
+  met-unique top (up h d) e = absurd (no-senior _ (subst (Reaches t _) (sym e) (admin-reaches (h .admin))))
+  met-unique (up h c) top e = absurd (no-senior _ (subst (Reaches t _) e (admin-reaches (h .admin))))
+  met-unique (up h c) (up {m = k} g d) e = ap₂ _∷_ e (met-unique c d (manager-unique (sound .loopless) h (subst (LineManager t k) (sym e) g)))
 
   climb-live : {r n : ℕ} → Climb t r n → Live t r
   climb-live top = sound .root

@@ -10,7 +10,7 @@ use lib.Dec.{eqb}
 use lib.Pow.{pow-lt}
 use lib.Count.{ones, ones-le}
 use borrow.Author.Tests.{eqb-true, eqb-false, eq-eqb}
-use Rattle.sets.specs.Sets.{bit, _∈_, _⊆_}
+use Rattle.sets.specs.Sets.{bit, _isIn_, _areIn_}
 use Rattle.sets.proofs.Bools.{cond-elim, lt-or-ge}
 use Rattle.sets.proofs.Digits.{bit-or, bit-pow}
 use Rattle.sets.proofs.Laws.{bit-lt, part-whole}
@@ -50,13 +50,13 @@ module _ (t : List ℕ) where
       unfolding grow
       grow-fits = spread-fits s 64 h
 
-      grow-is : (y : ℕ) → (y ∈ grow t s) ↔ (((x : ℕ) × ((x ∈ s) × (y ∈ row t x))) ⊎ (y ∈ s))
+      grow-is : (y : ℕ) → (y isIn grow t s) ↔ (((x : ℕ) × ((x isIn s) × (y isIn row t x))) ⊎ (y isIn s))
       unfolding grow
       grow-is y =
           let i = or-is (any-is 64 (λ x. and-is Iff·rfl (λ _. Iff·rfl)) (λ x m. bit-lt 64 h (m .0))) Iff·rfl in
           (λ e. i .0 (sym (bit-spread s 64 y) ∙ e), λ w. bit-spread s 64 y ∙ i .1 w)
 
-      grow-part : s ⊆ grow t s
+      grow-part : s areIn grow t s
       grow-part y m = grow-is y .1 (inr m)
 
       grow-whole : ones (grow t s) ≤ ones s → grow t s ≡ s
@@ -73,19 +73,19 @@ module _ (t : List ℕ) where
         λ l. record { start = l .start; member = grow-part (l .start) (l .member); chain = l .chain },
       )
 
-      still : grow t s ≡ s → (y : ℕ) → (y ∈ s) ↔ Led t s y
+      still : grow t s ≡ s → (y : ℕ) → (y isIn s) ↔ Led t s y
       still e y = (λ m. record { start = y; member = m; chain = stop }, λ l. along (l .member) (l .chain))
         where
-          along : {x : ℕ} → x ∈ s → Chain t x y → y ∈ s
+          along : {x : ℕ} → x isIn s → Chain t x y → y isIn s
           along m stop = m
           along m (step {x = x} {y = z} g c) = along (ap (λ n. bit n z) (sym e) ∙ grow-is z .1 (inl (x, (m, g)))) c
 
     -- the rounds suffice, counted by the roles that are not yet in
-    closes : (n s : ℕ) → s < 2 ^ 64 → 64 ≤ n + ones s → (close t n s < 2 ^ 64) × ((y : ℕ) → (y ∈ close t n s) ↔ Led t s y)
+    closes : (n s : ℕ) → s < 2 ^ 64 → 64 ≤ n + ones s → (close t n s < 2 ^ 64) × ((y : ℕ) → (y isIn close t n s) ↔ Led t s y)
     unfolding close
     closes zero s h l = (h, still s h (grow-whole s h (omega (arith, ones-le 64 (grow t s) (grow-fits s h)))))
     closes (suc n) s h l =
-        cond-elim (λ c. (c < 2 ^ 64) × ((y : ℕ) → (y ∈ c) ↔ Led t s y)) (eqb (grow t s) s) s (close t n (grow t s))
+        cond-elim (λ c. (c < 2 ^ 64) × ((y : ℕ) → (y isIn c) ↔ Led t s y)) (eqb (grow t s) s) s (close t n (grow t s))
         (λ e. (h, still s h (eqb-true (grow t s) s e)))
         (λ e. let r = closes n (grow t s) (grow-fits s h) (more e) in (r .0, λ y. Iff·trans (r .1 y) (led-grow s h y)))
       where
@@ -99,11 +99,11 @@ module _ (t : List ℕ) where
     close-fits s h = closes 64 s h (omega arith) .0
 
     -- Grown from s, it holds just what the members of s lead to.
-    pub close-is : (s : ℕ) → s < 2 ^ 64 → (y : ℕ) → (y ∈ close t 64 s) ↔ Led t s y
+    pub close-is : (s : ℕ) → s < 2 ^ 64 → (y : ℕ) → (y isIn close t 64 s) ↔ Led t s y
     close-is s h = closes 64 s h (omega arith) .1
 
     -- Grown from one role, it holds just what that role leads to.
-    pub close-one : (x : ℕ) → x < 64 → (y : ℕ) → (y ∈ close t 64 (2 ^ x)) ↔ Chain t x y
+    pub close-one : (x : ℕ) → x < 64 → (y : ℕ) → (y isIn close t 64 (2 ^ x)) ↔ Chain t x y
     close-one x l y = Iff·trans (close-is (2 ^ x) (pow-lt l) y) (
       λ w. subst (λ z. Chain t z y) (eqb-true (w .start) x (sym (bit-pow x (w .start)) ∙ w .member)) (w .chain),
       λ c. record { start = x; member = bit-pow x x ∙ eq-eqb x x refl; chain = c },

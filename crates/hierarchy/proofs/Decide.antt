@@ -9,7 +9,7 @@ use lib.Bits.{bitOr, or-lt, or-zero-l, or-zero-r}
 use lib.Dec.{eqb, ltb, lit<}
 use lib.ListN.{length, List·getD-eq-default}
 use lib.Pow.{pow-lt}
-use Rattle.sets.specs.Sets.{bit, _∈_, setOf}
+use Rattle.sets.specs.Sets.{bit, _isIn_, setOf}
 use Rattle.sets.proofs.Bools.{decided, lt-or-ge, false-no}
 use Rattle.sets.proofs.Digits.{bit-or, bit-zero}
 use Rattle.sets.proofs.Laws.{bit-lt, in-setOf}
@@ -34,7 +34,7 @@ row-unite (m ∷ s) (n ∷ t) (suc x) = row-unite s t x
 abbrev both : Tables → List ℕ
 both t = unite (t .i) (t .a)
 
-edge-is : (t : Tables) (x y : ℕ) → (y ∈ row (both t) x) ↔ (kind t x y ≢ 0)
+edge-is : (t : Tables) (x y : ℕ) → (y isIn row (both t) x) ↔ (kind t x y ≢ 0)
 edge-is t x y =
     let e = ap (λ s. bit s y) (row-unite (t .i) (t .a) x) ∙ bit-or (row (t .i) x) (row (t .a) x) y in
     let i = or-is Iff·rfl Iff·rfl in
@@ -44,13 +44,13 @@ leads : {t : Tables} {x y k : ℕ} → Way t x y k → Led (both t) (row (both t
 leads {t} {x} {y} (edge h) = record { start = y; member = edge-is t x y .1 h; chain = stop }
 leads {t} {x} (then {y = z} h w) = let l = leads w in record { start = z; member = edge-is t x z .1 h; chain = step (l .member) (l .chain) }
 
-led : (t : Tables) (x : ℕ) {y z : ℕ} → z ∈ row (both t) x → Chain (both t) z y → Reaches t x y
+led : (t : Tables) (x : ℕ) {y z : ℕ} → z isIn row (both t) x → Chain (both t) z y → Reaches t x y
 led t x {z = z} h stop = (kind t x z, edge (edge-is t x z .0 h))
 led t x {z = z} h (step g c) = let w = led t z g c in (_, then (edge-is t x z .0 h) (w .1))
 
 -- ---- on tables in their shape
 
-row-lt : (rows : List ℕ) → length rows ≡ 64 → (x y : ℕ) → y ∈ row rows x → x < 64
+row-lt : (rows : List ℕ) → length rows ≡ 64 → (x y : ℕ) → y isIn row rows x → x < 64
 row-lt rows e x y m = ⊎-elim (λ l. l)
     (λ (g : 64 ≤ x). absurd (false-no (ap (λ s. bit s y) (List·getD-eq-default rows 0 (omega arith)) ∙ bit-zero y) m)) (lt-or-ge x 64)
 
@@ -58,7 +58,7 @@ module _ {t : Tables} (shaped : Shaped t) where
   live-lt : {x : ℕ} → Live t x → x < 64
   live-lt = bit-lt 64 (shaped .live-fits)
 
-  derived-is : (x y : ℕ) → Live t x → Live t y → (y ∈ derived t x) ↔ Derives t x y
+  derived-is : (x y : ℕ) → Live t x → Live t y → (y isIn derived t x) ↔ Derives t x y
   unfolding derived
   derived-is x y l m =
       let a = close-one (t .a) (shaped .a-fits) x (live-lt l) in
@@ -91,7 +91,7 @@ module _ {t : Tables} (shaped : Shaped t) where
   )
 
   -- The computed set is the scope of a.
-  pub scope-set : (a s : ℕ) → setOf (scope? t a) ≡ s → (r : ℕ) → Scope t a r ↔ (r ∈ s)
+  pub scope-set : (a s : ℕ) → setOf (scope? t a) ≡ s → (r : ℕ) → Scope t a r ↔ (r isIn s)
   scope-set a s e r =
       let q = ap (λ n. bit n r) (sym e) ∙ in-setOf (scope? t a) r (λ h. live-lt (scope-is a r .0 h .derives .to)) in
       (λ h. q ∙ scope-is a r .1 h, λ m. scope-is a r .0 (sym q ∙ m))

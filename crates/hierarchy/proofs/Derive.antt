@@ -7,7 +7,7 @@ use Prim.Native.Nat.{ℕ, _<_}
 use native.Mathlib.Nat.{suc-ne-zero, lt-trans}
 use lib.Dec.{eqb, ltb, lit<}
 use borrow.Author.Tests.{ltb-true, ne-eqb, eqb-false, not-true}
-use Rattle.sets.specs.Sets.{bit, _∈_}
+use Rattle.sets.specs.Sets.{bit, _isIn_}
 use Rattle.sets.proofs.Bools.{or-cases, or-left, and-left, and-right, and-both}
 use Rattle.hierarchy.specs.Tables.{Tables, row, Live, kindOf, kind, joins, join}
 use Rattle.hierarchy.specs.Words.{Way, Derives, Chain, Splits, Joined}
@@ -83,13 +83,13 @@ joint t x y k l =
 -- ---- entries are edges
 
 -- a pair is an edge exactly when it is in one of the tables
-pub edge-entry : (t : Tables) (x y : ℕ) → (kind t x y ≢ 0) ↔ ((y ∈ row (t .i) x) ⊎ (y ∈ row (t .a) x))
+pub edge-entry : (t : Tables) (x y : ℕ) → (kind t x y ≢ 0) ↔ ((y isIn row (t .i) x) ⊎ (y isIn row (t .a) x))
 edge-entry t x y = pair t x y .some
 
-pub i-entry : (t : Tables) (x y : ℕ) → y ∈ row (t .i) x → kind t x y ≢ 0
+pub i-entry : (t : Tables) (x y : ℕ) → y isIn row (t .i) x → kind t x y ≢ 0
 i-entry t x y h = edge-entry t x y .1 (inl h)
 
-pub a-entry : (t : Tables) (x y : ℕ) → y ∈ row (t .a) x → kind t x y ≢ 0
+pub a-entry : (t : Tables) (x y : ℕ) → y isIn row (t .a) x → kind t x y ≢ 0
 a-entry t x y h = edge-entry t x y .1 (inr h)
 
 -- ---- from a joined path to A and then I
@@ -160,7 +160,7 @@ module _ {t : Tables} where
 
 -- ---- where entries are between live roles
 
-chain-live : (t : Tables) {rows : List ℕ} {x y : ℕ} → ((x y : ℕ) → y ∈ row rows x → Live t x × Live t y) → Chain rows x y → Live t x ↔ Live t y
+chain-live : (t : Tables) {rows : List ℕ} {x y : ℕ} → ((x y : ℕ) → y isIn row rows x → Live t x × Live t y) → Chain rows x y → Live t x ↔ Live t y
 chain-live t entry stop = Iff·rfl
 chain-live t entry (step h c) = (λ _. chain-live t entry c .0 (entry _ _ h .1), λ _. entry _ _ h .0)
 

@@ -9,7 +9,6 @@ pub mod Decide
 pub mod Admin
 pub mod ClimbLaws
 pub mod ViewLaws
-pub mod Walk
 pub mod Rows
 pub mod Sift
 pub mod Managing

@@ -7,7 +7,7 @@ use Prim.Native.Nat.{ℕ, zero, suc, _^_, _≤_, _<_}
 use native.Mathlib.Omega.{arith}
 use lib.Count.{ones, ones-le}
 use lib.ListN.{length}
-use Rattle.sets.specs.Sets.{bit, _∈_, _⊆_, same?}
+use Rattle.sets.specs.Sets.{bit, _isIn_, _areIn_, same?}
 use Rattle.sets.proofs.Bools.{true-or-false, or-cases, or-left, or-right, and-left, and-right, and-both, false-no, lt-or-ge}
 use Rattle.sets.proofs.Laws.{bit-lt, ones-less, setOf-fits, same-eq, but, bit-but}
 use Rattle.hierarchy.specs.Tables.{Tables, tables, row, kind}
@@ -21,9 +21,9 @@ but-cases s x v f e = ⊎-elim (λ q. inr (same-eq x v q))
     (λ q. inl (sym (bit-but s x f v ∙ ap (λ (p : Bool). bit s v && not p) q ∙ and-true (bit s v)) ∙ e)) (true-or-false (same? x v))
 
 -- every role of left has a junior in left
-module _ {t : Tables} (left : ℕ) (down : (x : ℕ) → x ∈ left → (y : ℕ) × (y ∈ left) × (kind t x y ≢ 0)) where
+module _ {t : Tables} (left : ℕ) (down : (x : ℕ) → x isIn left → (y : ℕ) × (y isIn left) × (kind t x y ≢ 0)) where
   -- Going down from x, s holds the roles not yet met, and all that were reach x: after as many steps as s has roles, one is met again.
-  comes-round : (k s x : ℕ) → s < 2 ^ 64 → ones s ≤ k → x ∈ left → ((v : ℕ) → v ∈ left → bit s v ≡ false → Reaches t v x) → (y : ℕ) × (y ∈ left) × Reaches t y y
+  comes-round : (k s x : ℕ) → s < 2 ^ 64 → ones s ≤ k → x isIn left → ((v : ℕ) → v isIn left → bit s v ≡ false → Reaches t v x) → (y : ℕ) × (y isIn left) × Reaches t y y
   comes-round zero s x f l m met =
       ⊎-elim (λ e. absurd (omega (arith, ones-less s (but s x) x (bit-lt 64 f e) e (bit-but s x f)))) (λ e. (x, m, met x m e)) (true-or-false (bit s x))
   comes-round (suc k) s x f l m met = ⊎-elim
@@ -33,26 +33,26 @@ module _ {t : Tables} (left : ℕ) (down : (x : ℕ) → x ∈ left → (y : ℕ
       (λ v n d. ⊎-elim (λ q. reaches-trans (met v n q) (_, edge (p .2))) (λ q. subst (λ (y : ℕ). Reaches t y (p .0)) (sym q) (_, edge (p .2))) (but-cases s x v f d)))
       (λ e. (x, m, met x m e)) (true-or-false (bit s x))
 
-  pub stuck : left < 2 ^ 64 → (left ≡ 0 → ⊥) → (x : ℕ) × (x ∈ left) × Reaches t x x
+  pub stuck : left < 2 ^ 64 → (left ≡ 0 → ⊥) → (x : ℕ) × (x isIn left) × Reaches t x x
   stuck f n = let m = a-member left f n in comes-round 64 left (m .0) f (ones-le 64 left f) (m .1) (λ v d e. absurd (false-no e d))
 
 -- ---- entries join live roles
 
 pub joined-no : (live x : ℕ) (i a : List ℕ) (both near : ℕ) (w : Bool) → ((y : ℕ) → bit both y ≡ (bit (row i x) y || bit (row a x) y))
-    → ((y : ℕ) → bit near y ≡ (bit live x && bit live y)) → (w ≡ true) ↔ (both ⊆ near) → w ≡ false → (false ≡ true) ↔ Joined (tables live i a)
+    → ((y : ℕ) → bit near y ≡ (bit live x && bit live y)) → (w ≡ true) ↔ (both areIn near) → w ≡ false → (false ≡ true) ↔ Joined (tables live i a)
 joined-no live x i a both near w both-is near-is test e = no-iff (λ j. false-no e (test .1 (λ y m.
     let l = j x y (edge-entry (tables live i a) x y .1 (or-cases (bit (row i x) y) (bit (row a x) y) (sym (both-is y) ∙ m))) in
     near-is y ∙ and-both (bit live x) (bit live y) (l .0) (l .1))))
 
 -- the rows below n are right
 abbrev pub Joined-below : ℕ → List ℕ → List ℕ → ℕ → Type 0
-Joined-below live i a n = (x : ℕ) → x < n → (y : ℕ) → (y ∈ row i x) ⊎ (y ∈ row a x) → (x ∈ live) × (y ∈ live)
+Joined-below live i a n = (x : ℕ) → x < n → (y : ℕ) → (y isIn row i x) ⊎ (y isIn row a x) → (x isIn live) × (y isIn live)
 
 pub joined-row : (live x : ℕ) (i a : List ℕ) (both near : ℕ) (w : Bool) → ((y : ℕ) → bit both y ≡ (bit (row i x) y || bit (row a x) y))
-    → ((y : ℕ) → bit near y ≡ (bit live x && bit live y)) → (w ≡ true) ↔ (both ⊆ near) → w ≡ true
-    → (y : ℕ) → (y ∈ row i x) ⊎ (y ∈ row a x) → (x ∈ live) × (y ∈ live)
+    → ((y : ℕ) → bit near y ≡ (bit live x && bit live y)) → (w ≡ true) ↔ (both areIn near) → w ≡ true
+    → (y : ℕ) → (y isIn row i x) ⊎ (y isIn row a x) → (x isIn live) × (y isIn live)
 joined-row live x i a both near w both-is near-is test e y d =
-    let m : y ∈ both = both-is y ∙ ⊎-elim (or-left (bit (row i x) y) (bit (row a x) y)) (or-right (bit (row i x) y) (bit (row a x) y)) d in
+    let m : y isIn both = both-is y ∙ ⊎-elim (or-left (bit (row i x) y) (bit (row a x) y)) (or-right (bit (row i x) y) (bit (row a x) y)) d in
     let n : (bit live x && bit live y) ≡ true = sym (near-is y) ∙ test .0 e y m in
     (and-left (bit live x) (bit live y) n, and-right (bit live x) (bit live y) n)
 

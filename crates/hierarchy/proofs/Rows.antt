@@ -7,7 +7,7 @@ use Prim.Native.Nat.{ℕ, zero, suc, _<_}
 use native.Mathlib.Decide.{ℕ-discrete}
 use lib.ListN.{set, length, length-set, replicate}
 use lib.Seq.{getD-set-same, getD-set-other}
-use Rattle.sets.specs.Sets.{bit, _∈_, _⊆_, same?, NoRole}
+use Rattle.sets.specs.Sets.{bit, _isIn_, _areIn_, same?, NoRole}
 use Rattle.sets.proofs.Bools.{and-left, and-right, and-both, not-so}
 use Rattle.sets.proofs.Digits.{bit-zero}
 use Rattle.sets.proofs.Laws.{same-eq, same-self}
@@ -27,32 +27,12 @@ row-set t x v y l P same other = dite (ℕ-discrete y x)
     (λ e. subst P (sym (ap (λ (k : ℕ). row (set t x v) k) e ∙ getD-set-same t x v 0 l)) (same e))
     (λ n. subst P (sym (getD-set-other t x y v 0 n)) (other n))
 
--- ---- a loop over the live roles that fills a row for each
-
--- rows of roles not left to do satisfy P
-pub record Filled (P : ℕ → ℕ → Type 0) (live : ℕ) (t : List ℕ) (rest : ℕ) : Type 0 where
-  pub rows : length t ≡ 64
-  pub part : rest ⊆ live
-  pub settled : (x : ℕ) → bit rest x ≡ false → P x (row t x)
-
-pub filled-start : (P : ℕ → ℕ → Type 0) (live : ℕ) → ((x : ℕ) → bit live x ≡ false → P x 0) → Filled P live (replicate 64 0) live
-filled-start P live f = record { rows = refl; part = λ x e. e; settled = λ x e. subst (P x) (sym (blank-row 64 x)) (f x e) }
-
-pub filled-turn : {P : ℕ → ℕ → Type 0} {live rest x rest′ : ℕ} {t : List ℕ} (v : ℕ) → Taken rest x rest′ → Filled P live t rest → P x v → Filled P live (set t x v) rest′
-filled-turn {P} {x = x} {t = t} v turn inv h = record {
-  rows = length-set t x v ∙ inv .rows;
-  part = λ y e. inv .part y (taken-part turn y e);
-  settled = λ y e. row-set t x v y (subst (λ (n : ℕ). x < n) (sym (inv .rows)) (turn .lowest .role)) (P y)
-      (λ q. subst (λ (n : ℕ). P n v) (sym q) h)
-      (λ n. inv .settled y (⊎-elim (λ f. f) (λ q. absurd (n q)) (taken-cases turn y e)));
-}
-
 -- ---- a role goes into many rows
 
 -- the rows of roles not left to do have x
 pub record Marking (up : List ℕ) (s x : ℕ) (marked : List ℕ) (rest : ℕ) : Type 0 where
   pub rows : length marked ≡ 64
-  pub part : rest ⊆ s
+  pub part : rest areIn s
   pub members : (y z : ℕ) → bit (row marked y) z ≡ (bit (row up y) z || ((bit s y && not (bit rest y)) && same? x z))
 
 pub marking-start : (up : List ℕ) (s x : ℕ) → length up ≡ 64 → Marking up s x up s
@@ -101,7 +81,7 @@ marking-end {up} {marked} {s} {x} empty inv = record {
 
 pub record Turning (live : ℕ) (down up : List ℕ) (rest : ℕ) : Type 0 where
   pub rows : length up ≡ 64
-  pub part : rest ⊆ live
+  pub part : rest areIn live
   pub members : (x y : ℕ) → bit (row up y) x ≡ ((bit live x && not (bit rest x)) && bit (row down x) y)
 
 pub turning-start : (live : ℕ) (down : List ℕ) → Turning live down (replicate 64 0) live
@@ -129,7 +109,7 @@ turning-turn {live} {rest} {x} {rest′} {down} {up} {up′} turn inv mark = rec
         ∙ ap (λ (p : Bool). (bit live z && not p) && bit (row down z) y) (sym (turn .rest-is z ∙ ap (λ (q : Bool). bit rest z && not q) e))
     go z y true e =
         let z-is : z ≡ x = same-eq x z e in
-        let in-rest : z ∈ rest = subst (λ (n : ℕ). n ∈ rest) (sym z-is) (turn .lowest .member) in
+        let in-rest : z isIn rest = subst (λ (n : ℕ). n isIn rest) (sym z-is) (turn .lowest .member) in
         ap (λ (p : Bool). ((bit live z && not p) && bit (row down z) y) || (bit (row down x) y && true)) in-rest
         ∙ ap (λ (p : Bool). (p && bit (row down z) y) || (bit (row down x) y && true)) (and-false (bit live z))
         ∙ and-true (bit (row down x) y)
@@ -147,8 +127,10 @@ turning-end {live} {rest} {down} {up} empty inv x y = (
     members = inv .members x y ∙ ap (λ (p : Bool). p && bit (row down x) y) (ap (λ (q : Bool). bit live x && not q) (empty .none x) ∙ and-true (bit live x))
 
 -- both views, from the two tables
-pub views-are : {t : Tables} {down up : List ℕ} → IsDown t down → IsUp (t .live) down up → AreViews t down up
-views-are d u = record {
+pub views-are : {t : Tables} {down up : List ℕ} → length down ≡ 64 → length up ≡ 64 → IsDown t down → IsUp (t .live) down up → AreViews t down up
+views-are dr ur d u = record {
+  down-rows = dr;
+  up-rows = ur;
   down-is = d;
   up-is = λ x y. (λ e. d x y .0 (u x y .0 e .1), λ w. u x y .1 (w .from, d x y .1 w));
 }

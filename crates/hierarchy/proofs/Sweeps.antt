@@ -8,7 +8,7 @@ use native.Mathlib.Decide.{ℕ-discrete}
 use lib.Count.{ones}
 use lib.ListN.{length, set, length-set, replicate}
 use borrow.Author.Tests.{eq-eqb}
-use Rattle.sets.specs.Sets.{bit, _∈_, _⊆_, same?, setOf, NoRole, Lowest, Highest}
+use Rattle.sets.specs.Sets.{bit, _isIn_, _areIn_, same?, setOf, NoRole, Lowest, Highest}
 use Rattle.sets.specs.declared.Pick.{Pick}
 use Rattle.sets.specs.declared.Pick.the-variants.{Role, Nobody}
 use Rattle.sets.proofs.Bools.{true-or-false, or-cases, or-left, or-right, and-left, and-right, and-both, false-no, not-so, iff-same, lt-or-ge}
@@ -20,16 +20,16 @@ use Rattle.hierarchy.specs.Words.{Derives, Way, Way.edge, Way.then, Reac
 use Rattle.hierarchy.specs.Views.{Led, InOrder, InOrderViews}
 use Rattle.hierarchy.specs.Engine.{Entry, IsOf, OneOf, InRows, Spread, ByI, Settled, RightRows, Right, Waits, Swept, Ordered, IsDown, IsUp}
 use Rattle.hierarchy.proofs.Derive.{edge-entry, derives↔descends}
-use Rattle.hierarchy.proofs.Rows.{row-set, blank-row, Filled, filled-start, views-are}
+use Rattle.hierarchy.proofs.Rows.{row-set, blank-row, views-are}
 use Rattle.hierarchy.proofs.Managing.{a-member, no-iff}
 use Rattle.hierarchy.proofs.Rounds.{stuck}
 
 -- ---- the rows of a set's members
 
 pub record Gathered (table : List ℕ) (s sum rest : ℕ) : Type 0 where
-  pub part : rest ⊆ s
-  pub only : (z : ℕ) → z ∈ sum → InRows table s z
-  pub every : (y z : ℕ) → y ∈ s → z ∈ row table y → (y ∈ rest) ⊎ (z ∈ sum)
+  pub part : rest areIn s
+  pub only : (z : ℕ) → z isIn sum → InRows table s z
+  pub every : (y z : ℕ) → y isIn s → z isIn row table y → (y isIn rest) ⊎ (z isIn sum)
 
 pub gather-start : (table : List ℕ) (s : ℕ) → Gathered table s 0 s
 gather-start table s = record { part = λ x e. e; only = λ z e. absurd (false-no (bit-zero z) e); every = λ y z e d. inl e }
@@ -40,12 +40,12 @@ gather-turn {table} {s} {sum} {rest} {y} sum′ turn inv sum-is = record {
   part = λ x e. inv .part x (taken-part turn x e);
   only = λ z e. ⊎-elim (inv .only z) (λ d. record { of = y; member = inv .part y (turn .lowest .member); on = d }) (or-cases (bit sum z) (bit (row table y) z) (sym (sum-is z) ∙ e));
   every = λ x z e d. ⊎-elim
-      (λ r. ⊎-map (λ k. k) (λ q. sum-is z ∙ or-right (bit sum z) (bit (row table y) z) (subst (λ (n : ℕ). z ∈ row table n) q d)) (taken-kept turn x r))
+      (λ r. ⊎-map (λ k. k) (λ q. sum-is z ∙ or-right (bit sum z) (bit (row table y) z) (subst (λ (n : ℕ). z isIn row table n) q d)) (taken-kept turn x r))
       (λ f. inr (sum-is z ∙ or-left (bit sum z) (bit (row table y) z) f))
       (inv .every x z e d);
 }
 
-pub gather-end : {table : List ℕ} {s rest : ℕ} (sum : ℕ) → NoRole rest → Gathered table s sum rest → (z : ℕ) → (z ∈ sum) ↔ InRows table s z
+pub gather-end : {table : List ℕ} {s rest : ℕ} (sum : ℕ) → NoRole rest → Gathered table s sum rest → (z : ℕ) → (z isIn sum) ↔ InRows table s z
 gather-end sum empty inv z = (inv .only z, λ r. ⊎-elim (λ q. absurd (false-no (empty .none (r .of)) q)) (λ f. f) (inv .every (r .of) z (r .member) (r .on)))
 
 -- the members of s that t has not, and one of them where there is any
@@ -55,12 +55,12 @@ less s t = setOf (λ x. bit s x && not (bit t x))
 less-is : (s t : ℕ) → s < 2 ^ 64 → (x : ℕ) → bit (less s t) x ≡ (bit s x && not (bit t x))
 less-is s t f x = in-setOf (λ x. bit s x && not (bit t x)) x (λ e. bit-lt 64 f (and-left (bit s x) (not (bit t x)) e))
 
-in-less : (s t : ℕ) → s < 2 ^ 64 → (x : ℕ) → x ∈ less s t → (x ∈ s) × (bit t x ≡ false)
+in-less : (s t : ℕ) → s < 2 ^ 64 → (x : ℕ) → x isIn less s t → (x isIn s) × (bit t x ≡ false)
 in-less s t f x m =
     let e : (bit s x && not (bit t x)) ≡ true = sym (less-is s t f x) ∙ m in
     (and-left (bit s x) (not (bit t x)) e, not-so (bit t x) (λ d. false-no (ap not d) (and-right (bit s x) (not (bit t x)) e)))
 
-outside : (s t : ℕ) → s < 2 ^ 64 → (s ⊆ t → ⊥) → (y : ℕ) × (y ∈ s) × (bit t y ≡ false)
+outside : (s t : ℕ) → s < 2 ^ 64 → (s areIn t → ⊥) → (y : ℕ) × (y isIn s) × (bit t y ≡ false)
 outside s t f n =
     let m = a-member (less s t) (setOf-fits _) (λ z. n (minus-part s t (less s t) (setOf-fits _) (less-is s t f) .0 (eq-eqb (less s t) 0 z))) in
     let l = in-less s t f (m .0) (m .1) in
@@ -68,7 +68,7 @@ outside s t f n =
 
 -- ---- one role is settled in one table
 
-pub settled-is : {table reach : List ℕ} {x own : ℕ} (below r : ℕ) → x < 64 → length reach ≡ 64 → ((z : ℕ) → (z ∈ below) ↔ InRows reach (row table x) z)
+pub settled-is : {table reach : List ℕ} {x own : ℕ} (below r : ℕ) → x < 64 → length reach ≡ 64 → ((z : ℕ) → (z isIn below) ↔ InRows reach (row table x) z)
     → ((z : ℕ) → bit r z ≡ (bit own z || bit below z)) → Settled table reach x own r (set reach x r)
 settled-is {table} {reach} {x} {own} below r l rows below-is r-is = record {
   rows = length-set reach x r ∙ rows;
@@ -88,13 +88,13 @@ module _ {table : List ℕ} {Own : ℕ → ℕ → Type 0} where
   spread-here : {x z : ℕ} → Own x z → Spread table Own x z
   spread-here {x} e = record { at = x; chain = stop; on = e }
 
-  spread-on : {x y z : ℕ} → y ∈ row table x → Spread table Own y z → Spread table Own x z
+  spread-on : {x y z : ℕ} → y isIn row table x → Spread table Own y z → Spread table Own x z
   spread-on e s = record { at = s .at; chain = step e (s .chain); on = s .on }
 
-  spread-cases : {x z : ℕ} → Spread table Own x z → Own x z ⊎ ((y : ℕ) × (y ∈ row table x) × Spread table Own y z)
+  spread-cases : {x z : ℕ} → Spread table Own x z → Own x z ⊎ ((y : ℕ) × (y isIn row table x) × Spread table Own y z)
   spread-cases {x} {z} s = go (s .chain) (s .on)
     where
-      go : {x m : ℕ} → Chain table x m → Own m z → Own x z ⊎ ((y : ℕ) × (y ∈ row table x) × Spread table Own y z)
+      go : {x m : ℕ} → Chain table x m → Own m z → Own x z ⊎ ((y : ℕ) × (y isIn row table x) × Spread table Own y z)
       go stop e = inl e
       go {m = m} (step {y = y} d c) e = inr (y, d, record { at = m; chain = c; on = e })
 
@@ -102,8 +102,8 @@ module _ {table : List ℕ} {Own : ℕ → ℕ → Type 0} where
   rows-start = record { rows = refl; right = λ x e. absurd (false-no (bit-zero x) e); blank = λ x e. blank-row 64 x }
 
   -- its row is right where its juniors' rows are
-  pub settled-right : {reach reach′ : List ℕ} {done x own r : ℕ} → RightRows table Own reach done → row table x ⊆ done → ((z : ℕ) → (z ∈ own) ↔ Own x z)
-      → Settled table reach x own r reach′ → (z : ℕ) → (z ∈ r) ↔ Spread table Own x z
+  pub settled-right : {reach reach′ : List ℕ} {done x own r : ℕ} → RightRows table Own reach done → row table x areIn done → ((z : ℕ) → (z isIn own) ↔ Own x z)
+      → Settled table reach x own r reach′ → (z : ℕ) → (z isIn r) ↔ Spread table Own x z
   settled-right inv below own-is set z = (
     λ e. ⊎-elim (λ d. spread-here (own-is z .0 d)) (λ d. spread-on (d .member) (inv .right (d .of) (below (d .of) (d .member)) z .0 (d .on))) (set .here z .0 e),
     λ s. set .here z .1 (⊎-map (own-is z .1) (λ w. record { of = w .0; member = w .1; on = inv .right (w .0) (below (w .0) (w .1)) z .1 (w .2) }) (spread-cases s)),
@@ -111,12 +111,12 @@ module _ {table : List ℕ} {Own : ℕ → ℕ → Type 0} where
 
   -- and x is done too
   pub rows-more : {reach reach′ : List ℕ} {done x own r : ℕ} (done′ : ℕ) → RightRows table Own reach done → Settled table reach x own r reach′
-      → ((z : ℕ) → (z ∈ r) ↔ Spread table Own x z) → x < 64 → ((y : ℕ) → bit done′ y ≡ (bit done y || same? x y)) → RightRows table Own reach′ done′
+      → ((z : ℕ) → (z isIn r) ↔ Spread table Own x z) → x < 64 → ((y : ℕ) → bit done′ y ≡ (bit done y || same? x y)) → RightRows table Own reach′ done′
   rows-more {reach} {reach′} {done} {x} done′ inv set here l done-is = record {
     rows = set .rows;
     right = λ y e. dite (ℕ-discrete y x)
-        (λ q z. subst (λ (n : ℕ). (z ∈ row reach′ n) ↔ Spread table Own n z) (sym q) (subst (λ (w : ℕ). (z ∈ w) ↔ Spread table Own x z) (sym (set .is)) (here z)))
-        (λ n z. subst (λ (w : ℕ). (z ∈ w) ↔ Spread table Own y z) (sym (set .others y n))
+        (λ q z. subst (λ (n : ℕ). (z isIn row reach′ n) ↔ Spread table Own n z) (sym q) (subst (λ (w : ℕ). (z isIn w) ↔ Spread table Own x z) (sym (set .is)) (here z)))
+        (λ n z. subst (λ (w : ℕ). (z isIn w) ↔ Spread table Own y z) (sym (set .others y n))
         (inv .right y (⊎-elim (λ d. d) (λ s. absurd (n (same-eq x y s))) (or-cases (bit done y) (same? x y) (sym (done-is y) ∙ e))) z));
     blank = λ y e. dite (ℕ-discrete y x)
         (λ q. absurd (false-no e (done-is y ∙ or-right (bit done y) (same? x y) (ap (same? x) q ∙ same-self x l))))
@@ -125,12 +125,12 @@ module _ {table : List ℕ} {Own : ℕ → ℕ → Type 0} where
 
 -- ---- a path from a role whose juniors are done stays among the done
 
-module _ {live : ℕ} {i a : List ℕ} (done : ℕ) (closed : (x y : ℕ) → x ∈ done → Entry i a x y → y ∈ done) where
-  way-done : {x y k : ℕ} → ((y : ℕ) → Entry i a x y → y ∈ done) → Way (tables live i a) x y k → y ∈ done
+module _ {live : ℕ} {i a : List ℕ} (done : ℕ) (closed : (x y : ℕ) → x isIn done → Entry i a x y → y isIn done) where
+  way-done : {x y k : ℕ} → ((y : ℕ) → Entry i a x y → y isIn done) → Way (tables live i a) x y k → y isIn done
   way-done {x} {y} f (edge h) = f y (edge-entry (tables live i a) x y .0 h)
   way-done {x} f (then {y = y} h w) = way-done (λ z e. closed y z (f y (edge-entry (tables live i a) x y .0 h)) e) w
 
-chain-in : {table : List ℕ} (done : ℕ) → ((x y : ℕ) → x ∈ done → y ∈ row table x → y ∈ done) → {x y : ℕ} → x ∈ done → Chain table x y → y ∈ done
+chain-in : {table : List ℕ} (done : ℕ) → ((x y : ℕ) → x isIn done → y isIn row table x → y isIn done) → {x y : ℕ} → x isIn done → Chain table x y → y isIn done
 chain-in done f m stop = m
 chain-in done f {x} m (step {y = y} e c) = chain-in done f (f x y m e) c
 
@@ -152,10 +152,10 @@ no-one {s} e o = subst (OneOf s) e o
 
 pub record Sweeping (i a : List ℕ) (done left : ℕ) (by-i down : List ℕ) (now-done rest : ℕ) : Type 0 where
   pub right : Right i a by-i down now-done
-  pub more : done ⊆ now-done
-  pub drawn : rest ⊆ left
-  pub part : (x : ℕ) → x ∈ now-done → (x ∈ done) ⊎ (x ∈ left)
-  pub waiting : (x : ℕ) → x ∈ left → (x ∈ rest) ⊎ ((x ∈ now-done) ⊎ Waits i a done x)
+  pub more : done areIn now-done
+  pub drawn : rest areIn left
+  pub part : (x : ℕ) → x isIn now-done → (x isIn done) ⊎ (x isIn left)
+  pub waiting : (x : ℕ) → x isIn left → (x isIn rest) ⊎ ((x isIn now-done) ⊎ Waits i a done x)
 
 pub right-start : (i a : List ℕ) → Right i a (replicate 64 0) (replicate 64 0) 0
 right-start i a = record {
@@ -179,7 +179,7 @@ sweep-end empty inv = record {
 module _ {i a : List ℕ} {done left now-done rest x rest′ : ℕ} {by-i down : List ℕ} (both : ℕ) (turn : Drawn rest x rest′) (inv : Sweeping i a done left by-i down now-done rest)
     (both-is : (y : ℕ) → bit both y ≡ (bit (row i x) y || bit (row a x) y)) where
   -- the juniors of x are done, and x is settled
-  pub sweep-in : {by-i′ down′ : List ℕ} (one r s now-done′ : ℕ) → both ⊆ now-done → ((z : ℕ) → bit one z ≡ same? x z) → Settled i by-i x one r by-i′ → Settled a down x r s down′
+  pub sweep-in : {by-i′ down′ : List ℕ} (one r s now-done′ : ℕ) → both areIn now-done → ((z : ℕ) → bit one z ≡ same? x z) → Settled i by-i x one r by-i′ → Settled a down x r s down′
       → ((y : ℕ) → bit now-done′ y ≡ (bit now-done y || same? x y)) → Sweeping i a done left by-i′ down′ now-done′ rest′
   sweep-in {by-i′} {down′} one r s now-done′ below one-is i-set a-set done-is = record {
     right = record {
@@ -191,28 +191,28 @@ module _ {i a : List ℕ} {done left now-done rest x rest′ : ℕ} {by-i down :
     };
     more = λ y e. done-is y ∙ or-left (bit now-done y) (same? x y) (inv .more y e);
     drawn = λ y e. inv .drawn y (and-left (bit rest y) (not (same? x y)) (sym (turn .rest-is y) ∙ e));
-    part = λ y e. ⊎-elim (inv .part y) (λ q. inr (subst (λ (n : ℕ). n ∈ left) (sym q) (inv .drawn x (turn .member)))) (now y e);
+    part = λ y e. ⊎-elim (inv .part y) (λ q. inr (subst (λ (n : ℕ). n isIn left) (sym q) (inv .drawn x (turn .member)))) (now y e);
     waiting = λ y e. ⊎-elim
         (λ k. ⊎-map (λ m. m) (λ q. inl (done-is y ∙ or-right (bit now-done y) (same? x y) (ap (same? x) q ∙ same-self x (turn .role)))) (drawn-kept turn y k))
         (λ w. inr (⊎-map (λ m. done-is y ∙ or-left (bit now-done y) (same? x y) m) (λ m. m) w))
         (inv .waiting y e);
   }
     where
-      now : (y : ℕ) → y ∈ now-done′ → (y ∈ now-done) ⊎ (y ≡ x)
+      now : (y : ℕ) → y isIn now-done′ → (y isIn now-done) ⊎ (y ≡ x)
       now y e = ⊎-map (λ m. m) (same-eq x y) (or-cases (bit now-done y) (same? x y) (sym (done-is y) ∙ e))
 
-      juniors : (y : ℕ) → Entry i a x y → y ∈ now-done
+      juniors : (y : ℕ) → Entry i a x y → y isIn now-done
       juniors y d = below y (both-is y ∙ ⊎-elim (or-left (bit (row i x) y) (bit (row a x) y)) (or-right (bit (row i x) y) (bit (row a x) y)) d)
 
       none : (live : ℕ) → Reaches (tables live i a) x x → ⊥
       none live w = inv .right .loopless live x (way-done now-done (inv .right .closed) juniors (w .1)) w
 
-      i-here : (z : ℕ) → (z ∈ r) ↔ ByI i x z
+      i-here : (z : ℕ) → (z isIn r) ↔ ByI i x z
       i-here = settled-right (inv .right .i-rows) (λ y e. juniors y (inl e))
           (λ z. (λ e. sym (same-eq x z (sym (one-is z) ∙ e)), λ q. one-is z ∙ ap (same? x) (sym q) ∙ same-self x (turn .role))) i-set
 
   -- a junior of x isn't done, and x waits
-  pub sweep-out : both < 2 ^ 64 → (both ⊆ now-done → ⊥) → Sweeping i a done left by-i down now-done rest′
+  pub sweep-out : both < 2 ^ 64 → (both areIn now-done → ⊥) → Sweeping i a done left by-i down now-done rest′
   sweep-out f n = record {
     right = inv .right;
     more = inv .more;
@@ -231,16 +231,16 @@ module _ {i a : List ℕ} {done left now-done rest x rest′ : ℕ} {by-i down :
 pub record Ordering (live : ℕ) (i a by-i down : List ℕ) (done left : ℕ) : Type 0 where
   pub right : Right i a by-i down done
   pub fits : left < 2 ^ 64
-  pub part : done ⊆ live
-  pub rest : left ⊆ live
-  pub whole : (x : ℕ) → x ∈ live → (x ∈ done) ⊎ (x ∈ left)
+  pub part : done areIn live
+  pub rest : left areIn live
+  pub whole : (x : ℕ) → x isIn live → (x isIn done) ⊎ (x isIn left)
 
 pub order-start : {live : ℕ} {i a by-i down : List ℕ} → live < 2 ^ 64 → Right i a by-i down 0 → Ordering live i a by-i down 0 live
 order-start f r = record { right = r; fits = f; part = λ x e. absurd (false-no (bit-zero x) e); rest = λ x e. e; whole = λ x e. inr e }
 
 module _ {live done left : ℕ} {i a by-i down by-i′ down′ : List ℕ} (more rest : ℕ) (inv : Ordering live i a by-i down done left) (sweep : Swept i a done left by-i′ down′ more)
     (rest-is : (x : ℕ) → bit rest x ≡ (bit left x && not (bit more x))) where
-  rest-part : rest ⊆ left
+  rest-part : rest areIn left
   rest-part x e = and-left (bit left x) (not (bit more x)) (sym (rest-is x) ∙ e)
 
   pub order-turn : rest < 2 ^ 64 → Ordering live i a by-i′ down′ more rest
@@ -273,8 +273,8 @@ module _ {live : ℕ} {i a by-i down : List ℕ} (done : ℕ) (ord : Ordered liv
   t = tables live i a
 
   module _ (all : done ≡ live) where
-    is-done : (x : ℕ) → x ∈ live → x ∈ done
-    is-done x m = subst (λ (s : ℕ). x ∈ s) (sym all) m
+    is-done : (x : ℕ) → x isIn live → x isIn done
+    is-done x m = subst (λ (s : ℕ). x isIn s) (sym all) m
 
     ordered : InOrder t
     ordered = record {
@@ -282,7 +282,7 @@ module _ {live : ℕ} {i a by-i down : List ℕ} (done : ℕ) (ord : Ordered liv
       loopless = λ x m. ord .right .loopless live x (is-done x m);
     }
 
-    by-done : (x : ℕ) → x ∈ done → (z : ℕ) → (z ∈ row down x) ↔ Derives t x z
+    by-done : (x : ℕ) → x isIn done → (z : ℕ) → (z isIn row down x) ↔ Derives t x z
     by-done x m z = (
       λ e.
           let s = ord .right .a-rows .right x m z .0 e in
@@ -307,67 +307,34 @@ module _ {live : ℕ} {i a by-i down : List ℕ} (done : ℕ) (ord : Ordered liv
         ))
         (true-or-false (bit done x))
 
-    pub ordered-views : {up : List ℕ} → length up ≡ 64 → IsUp live down up → InOrderViews t down up true
+    pub ordered-views : {old-down old-up up : List ℕ} → length up ≡ 64 → IsUp live down up → InOrderViews t old-down old-up true down up
     ordered-views rows up-is = record {
       in-order = (λ _. ordered, λ _. refl);
-      views = λ _. views-are down-done up-is;
-      blank = λ e. absurd (false-no e refl);
-      down-rows = ord .right .a-rows .rows;
-      up-rows = rows;
+      views = λ _. views-are (ord .right .a-rows .rows) rows down-done up-is;
+      left = λ e. absurd (false-no e refl);
     }
 
   -- who is left waits for one who is left, so going down comes round
   module _ (live-fits : live < 2 ^ 64) (done-fits : done < 2 ^ 64) where
-    waits : InOrder t → (x : ℕ) → x ∈ less live done → (y : ℕ) × (y ∈ less live done) × (kind t x y ≢ 0)
+    waits : InOrder t → (x : ℕ) → x isIn less live done → (y : ℕ) × (y isIn less live done) × (kind t x y ≢ 0)
     waits o x m =
         let l = in-less live done live-fits x m in
         let y : Waits i a done x = ⊎-elim (λ d. absurd (false-no (l .1) d)) (λ w. w) (ord .waiting x (l .0)) in
         let h : kind t x (y .0) ≢ 0 = edge-entry t x (y .0) .1 (y .1) in
         (y .0, less-is live done live-fits (y .0) ∙ and-both (bit live (y .0)) (not (bit done (y .0))) (o .juniors x (y .0) (l .0) h) (ap not (y .2)), h)
 
-    all-done : InOrder t → live ⊆ done
+    all-done : InOrder t → live areIn done
     all-done o x m = ⊎-elim (λ d. d) (λ n. absurd (none n)) (true-or-false (bit done x))
       where
         none : bit done x ≡ false → ⊥
         none n =
-            let here : x ∈ less live done = less-is live done live-fits x ∙ and-both (bit live x) (not (bit done x)) m (ap not n) in
+            let here : x isIn less live done = less-is live done live-fits x ∙ and-both (bit live x) (not (bit done x)) m (ap not n) in
             let w = stuck (less live done) (waits o) (setOf-fits _) (λ z. false-no (ap (λ (s : ℕ). bit s x) z ∙ bit-zero x) here) in
             o .loopless (w .0) (in-less live done live-fits (w .0) (w .1) .0) (w .2)
 
-    pub blank-views : {down′ up′ : List ℕ} → (done ≡ live → ⊥) → down′ ≡ replicate 64 0 → up′ ≡ replicate 64 0 → InOrderViews t down′ up′ false
-    blank-views n d u = record {
+    pub no-views : {old-down old-up : List ℕ} → (done ≡ live → ⊥) → InOrderViews t old-down old-up false old-down old-up
+    no-views n = record {
       in-order = no-iff (λ o. n (ext 64 done live done-fits live-fits (λ x _. iff-same (bit done x) (bit live x) (ord .part x) (all-done o x))));
       views = λ e. absurd (false-no refl e);
-      blank = λ _. (d, u);
-      down-rows = ap length d;
-      up-rows = ap length u;
+      left = λ _. (refl, refl);
     }
-
--- ---- each live role by its closures
-
-pub closures-start : (live : ℕ) (i a down : List ℕ) → down ≡ replicate 64 0 → Filled (λ x v. (z : ℕ) → (z ∈ v) ↔ Derives (tables live i a) x z) live down live
-closures-start live i a down e = subst (λ (d : List ℕ). Filled (λ x v. (z : ℕ) → (z ∈ v) ↔ Derives (tables live i a) x z) live d live) (sym e)
-    (filled-start (λ x v. (z : ℕ) → (z ∈ v) ↔ Derives (tables live i a) x z) live (λ x n z. (λ m. absurd (false-no (bit-zero z) m), λ d. absurd (false-no n (d .from)))))
-
-pub closures-row : {live : ℕ} {i a : List ℕ} {x : ℕ} (one by-a by-i v : ℕ) → x < 64 → x ∈ live → ((y : ℕ) → bit one y ≡ same? x y) → ((y : ℕ) → (y ∈ by-a) ↔ Led a one y)
-    → ((y : ℕ) → (y ∈ by-i) ↔ Led i by-a y) → ((y : ℕ) → bit v y ≡ (bit live y && bit by-i y)) → (z : ℕ) → (z ∈ v) ↔ Derives (tables live i a) x z
-closures-row {live} {i} {a} {x} one by-a by-i v l m one-is a-is i-is v-is z = (
-  λ e.
-      let p = sym (v-is z) ∙ e in
-      let u = i-is z .0 (and-right (bit live z) (bit by-i z) p) in
-      let s = a-is (u .start) .0 (u .member) in
-      derives↔descends .1 (record {
-        from = m;
-        to = and-left (bit live z) (bit by-i z) p;
-        mid = u .start;
-        down-a = subst (λ (n : ℕ). Chain a n (u .start)) (same-eq x (s .start) (sym (one-is (s .start)) ∙ s .member)) (s .chain);
-        down-i = u .chain;
-      }),
-  λ d.
-      let s = derives↔descends .0 d in
-      v-is z ∙ and-both (bit live z) (bit by-i z) (s .to)
-      (i-is z .1 (record { start = s .mid; member = a-is (s .mid) .1 (record { start = x; member = one-is x ∙ same-self x l; chain = s .down-a }); chain = s .down-i })),
-)
-
-pub closures-end : {t : Tables} {down : List ℕ} {live rest : ℕ} → NoRole rest → Filled (λ x v. (z : ℕ) → (z ∈ v) ↔ Derives t x z) live down rest → IsDown t down
-closures-end empty inv x = inv .settled x (empty .none x)

@@ -1,5 +1,5 @@
 -- What holds of sound tables. Assumes nothing.
-use mathlib.Core.Path.{_≡_}
+use mathlib.Core.Path.{_≡_, refl}
 use mathlib.Core.Logic.{_≢_}
 use Prim.Native.Nat.{ℕ, _+_, _≤_}
 use native.Mathlib.Omega.{arith}
@@ -17,13 +17,21 @@ module _ {t : Tables} (sound : Sound t) where
       let m = Admin.manager-exists (sound .loopless) (sound .shaped) r (sound .managed r l n .1) in
       (m .0, m .1, λ k g. Admin.manager-unique (sound .loopless) g (m .1))
 
-  -- Role 0 has no senior.
+  -- Role 0 has no senior,
   pub no-senior : (x : ℕ) → Reaches t x 0 → ⊥
   no-senior = ClimbLaws.no-senior sound
+
+  -- and so no line manager.
+  pub no-manager : (m : ℕ) → LineManager t m 0 → ⊥
+  no-manager m l = no-senior m (Admin.admin-reaches (l .admin))
 
   -- From each live role the line managers lead up to role 0, in one number of steps.
   pub one-climb : (r : ℕ) → Live t r → (n : ℕ) × Climb t r n × ((m : ℕ) → Climb t r m → m ≡ n)
   one-climb r l = let c = ClimbLaws.climbs sound r l in (c .0, c .1, λ m d. ClimbLaws.climb-unique sound d (c .1))
+
+  -- and by the same roles, whichever way is taken.
+  pub one-way : {r m n : ℕ} (c : Climb t r m) (d : Climb t r n) → met c ≡ met d
+  one-way c d = ClimbLaws.met-unique sound c d refl
 
   -- The roles met on the way are pairwise different,
   pub climb-distinct : {r n : ℕ} (c : Climb t r n) → Distinct (met c)

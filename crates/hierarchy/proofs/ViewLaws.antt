@@ -1,23 +1,25 @@
 -- The words of scope read off the views of a table are the words themselves; and their answers are settled. Assumes nothing.
 use mathlib.Core.Path.{_≡_, refl, sym, _∙_, ap, subst}
 use mathlib.Core.Logic.{⊎-map, _↔_, Iff·symm, Iff·trans}
+use mathlib.Core.Bool.{Bool, true, false}
 use mathlib.Core.List.{List}
 use Prim.Native.Nat.{ℕ, suc, _≤_}
 use native.Mathlib.Nat.{le-of-eq, le-trans, le-antisymm}
 use native.Mathlib.Omega.{arith}
 use lib.Count.{ones-le}
+use lib.ListN.{length}
 use lib.Seq.{ext-getD}
-use Rattle.sets.specs.Sets.{bit, _∈_}
+use Rattle.sets.specs.Sets.{_isIn_}
 use Rattle.sets.specs.declared.Pick.{Pick}
 use Rattle.sets.specs.declared.Pick.the-variants.{Role, Nobody}
-use Rattle.sets.proofs.Bools.{iff-same}
-use Rattle.sets.proofs.Laws.{ext}
+use Rattle.sets.proofs.Bools.{test-unique}
+use Rattle.sets.proofs.Laws.{same-members}
 use Rattle.hierarchy.specs.declared.scopes.Climbed.{Climbed}
 use Rattle.hierarchy.specs.declared.scopes.Climbed.the-variants.{Steps, Stopped}
-use Rattle.hierarchy.specs.Tables.{Tables, row, IsTable, Live}
+use Rattle.hierarchy.specs.Tables.{Tables, row, Live}
 use Rattle.hierarchy.specs.Words.{Reaches, Scope, Administrator, LineManager, Loops, Sound, Climb}
 use Rattle.hierarchy.specs.Words.{Climb.top}
-use Rattle.hierarchy.specs.Views.{AreViews, ScopeBy, AdminBy, ManagerBy, Managing, ClimbBy, Climbing}
+use Rattle.hierarchy.specs.Views.{AreViews, InOrderViews, ScopeBy, AdminBy, ManagerBy, Managing, ClimbBy, Climbing}
 use Rattle.hierarchy.specs.Views.{ClimbBy.arrived, ClimbBy.further}
 use Rattle.hierarchy.proofs.Admin.{admin-reaches, manager-unique}
 use Rattle.hierarchy.proofs.ClimbLaws.{climbs, no-senior, climb-short}
@@ -114,15 +116,24 @@ module _ (down up : List ℕ) where
 
 -- ---- views are settled
 
-table-ext : {s t : List ℕ} → IsTable s → IsTable t → ((x y : ℕ) → (y ∈ row s x) ↔ (y ∈ row t x)) → s ≡ t
-table-ext {s} {t} p q e =
-    ext-getD 0 s t (p .rows ∙ sym (q .rows))
-    (λ x _. ext 64 (row s x) (row t x) (p .fits x) (q .fits x) (λ y _. iff-same (bit (row s x) y) (bit (row t x) y) (e x y .0) (e x y .1)))
+table-ext : {s t : List ℕ} → length s ≡ length t → ((x y : ℕ) → (y isIn row s x) ↔ (y isIn row t x)) → s ≡ t
+table-ext {s} {t} l e = ext-getD 0 s t l (λ x _. same-members (row s x) (row t x) (e x))
 
--- Tables have one pair of views.
-pub views-unique : {t : Tables} {down up down′ up′ : List ℕ} → IsTable down → IsTable up → IsTable down′ → IsTable up′
-    → AreViews t down up → AreViews t down′ up′ → (down ≡ down′) × (up ≡ up′)
-views-unique d u d′ u′ v w = (
-  table-ext d d′ (λ x y. Iff·trans (v .down-is x y) (Iff·symm (w .down-is x y))),
-  table-ext u u′ (λ y x. Iff·trans (v .up-is x y) (Iff·symm (w .up-is x y))),
+-- Tables have one pair of views,
+pub views-unique : {t : Tables} {down up down′ up′ : List ℕ} → AreViews t down up → AreViews t down′ up′ → (down ≡ down′) × (up ≡ up′)
+views-unique v w = (
+  table-ext (v .down-rows ∙ sym (w .down-rows)) (λ x y. Iff·trans (v .down-is x y) (Iff·symm (w .down-is x y))),
+  table-ext (v .up-rows ∙ sym (w .up-rows)) (λ y x. Iff·trans (v .up-is x y) (Iff·symm (w .up-is x y))),
 )
+
+-- and there is one answer on their order, with one content of what is lent.
+pub in-order-unique : {t : Tables} {down up d u d′ u′ : List ℕ} {p q : Bool} → InOrderViews t down up p d u → InOrderViews t down up q d′ u′
+    → (p ≡ q) × (d ≡ d′) × (u ≡ u′)
+in-order-unique {d = d} {u = u} {d′ = d′} {u′ = u′} {p = p} {q = q} v w = (same, both p refl .0, both p refl .1)
+  where
+    same : p ≡ q
+    same = test-unique (v .in-order) (w .in-order)
+
+    both : (o : Bool) → p ≡ o → (d ≡ d′) × (u ≡ u′)
+    both true e = views-unique (v .views e) (w .views (sym same ∙ e))
+    both false e = let l = v .left e in let r = w .left (sym same ∙ e) in (l .0 ∙ sym (r .0), l .1 ∙ sym (r .1))

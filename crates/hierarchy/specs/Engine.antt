@@ -5,7 +5,7 @@ use mathlib.Core.Bool.{false, _&&_, _||_}
 use mathlib.Core.List.{List}
 use Prim.Native.Nat.{ℕ, _<_}
 use lib.ListN.{length}
-use Rattle.sets.specs.Sets.{bit, _∈_, _⊆_, same?, NoRole}
+use Rattle.sets.specs.Sets.{bit, _isIn_, _areIn_, same?, NoRole}
 use Rattle.sets.specs.declared.Pick.{Pick}
 use Rattle.sets.specs.declared.Pick.the-variants.{Role, Nobody}
 use Rattle.hierarchy.specs.Tables.{Tables, tables, row}
@@ -13,13 +13,13 @@ use Rattle.hierarchy.specs.Words.{Derives, Reaches, Chain}
 
 -- an entry of either table
 abbrev pub Entry : List ℕ → List ℕ → ℕ → ℕ → Type 0
-Entry i a x y = (y ∈ row i x) ⊎ (y ∈ row a x)
+Entry i a x y = (y isIn row i x) ⊎ (y isIn row a x)
 
 -- z is in the row of a role of s
 pub record InRows (table : List ℕ) (s z : ℕ) : Type 0 where
   pub of : ℕ
-  pub member : of ∈ s
-  pub on : z ∈ row table of
+  pub member : of isIn s
+  pub on : z isIn row table of
 
 -- through the table x leads to a role that has z as its own
 pub record Spread (table : List ℕ) (Own : ℕ → ℕ → Type 0) (x z : ℕ) : Type 0 where
@@ -35,26 +35,26 @@ ByI i = Spread i (λ x z. x ≡ z)
 pub record Settled (table old : List ℕ) (x own r : ℕ) (reach : List ℕ) : Type 0 where
   pub rows : length reach ≡ 64
   pub is : row reach x ≡ r
-  pub here : (z : ℕ) → (z ∈ r) ↔ ((z ∈ own) ⊎ InRows old (row table x) z)
+  pub here : (z : ℕ) → (z isIn r) ↔ ((z isIn own) ⊎ InRows old (row table x) z)
   pub others : (y : ℕ) → (y ≡ x → ⊥) → row reach y ≡ row old y
 
 -- the rows of the roles that are done are right, the others blank
 pub record RightRows (table : List ℕ) (Own : ℕ → ℕ → Type 0) (reach : List ℕ) (done : ℕ) : Type 0 where
   pub rows : length reach ≡ 64
-  pub right : (x : ℕ) → x ∈ done → (z : ℕ) → (z ∈ row reach x) ↔ Spread table Own x z
+  pub right : (x : ℕ) → x isIn done → (z : ℕ) → (z isIn row reach x) ↔ Spread table Own x z
   pub blank : (x : ℕ) → bit done x ≡ false → row reach x ≡ 0
 
 -- both tables are right so far; juniors of roles that are done are done, and none of these reaches itself
 pub record Right (i a by-i down : List ℕ) (done : ℕ) : Type 0 where
   pub i-rows : RightRows i (λ x z. x ≡ z) by-i done
   pub a-rows : RightRows a (ByI i) down done
-  pub closed : (x y : ℕ) → x ∈ done → Entry i a x y → y ∈ done
-  pub loopless : (live x : ℕ) → x ∈ done → Reaches (tables live i a) x x → ⊥
+  pub closed : (x y : ℕ) → x isIn done → Entry i a x y → y isIn done
+  pub loopless : (live x : ℕ) → x isIn done → Reaches (tables live i a) x x → ⊥
 
 -- one role of s, whichever
 pub record IsOf (s r : ℕ) : Type 0 where
   pub role : r < 64
-  pub member : r ∈ s
+  pub member : r isIn s
 
 abbrev pub OneOf : ℕ → Pick → Type 0
 OneOf s (Role r) = IsOf s r
@@ -67,23 +67,23 @@ Waits i a done x = (y : ℕ) × Entry i a x y × (bit done y ≡ false)
 -- more is done than was, and rightly; what was left and isn't done was waiting
 pub record Swept (i a : List ℕ) (done left : ℕ) (by-i down : List ℕ) (r : ℕ) : Type 0 where
   pub right : Right i a by-i down r
-  pub more : done ⊆ r
-  pub part : (x : ℕ) → x ∈ r → (x ∈ done) ⊎ (x ∈ left)
-  pub waiting : (x : ℕ) → x ∈ left → (x ∈ r) ⊎ Waits i a done x
+  pub more : done areIn r
+  pub part : (x : ℕ) → x isIn r → (x isIn done) ⊎ (x isIn left)
+  pub waiting : (x : ℕ) → x isIn left → (x isIn r) ⊎ Waits i a done x
 
 -- of the live roles all are done but those that wait for ever
 pub record Ordered (live : ℕ) (i a by-i down : List ℕ) (r : ℕ) : Type 0 where
   pub right : Right i a by-i down r
-  pub part : r ⊆ live
-  pub waiting : (x : ℕ) → x ∈ live → (x ∈ r) ⊎ Waits i a r x
+  pub part : r areIn live
+  pub waiting : (x : ℕ) → x isIn live → (x isIn r) ⊎ Waits i a r x
 
 -- each row of down is what its role derives
 abbrev pub IsDown : Tables → List ℕ → Type 0
-IsDown t down = (x y : ℕ) → (y ∈ row down x) ↔ Derives t x y
+IsDown t down = (x y : ℕ) → (y isIn row down x) ↔ Derives t x y
 
 -- up is the part of down that starts at live roles, turned round
 abbrev pub IsUp : ℕ → List ℕ → List ℕ → Type 0
-IsUp live down up = (x y : ℕ) → (x ∈ row up y) ↔ ((x ∈ live) × (y ∈ row down x))
+IsUp live down up = (x y : ℕ) → (x isIn row up y) ↔ ((x isIn live) × (y isIn row down x))
 
 -- x has gone into the row of each role of s
 pub record Marked (up : List ℕ) (s x : ℕ) (marked : List ℕ) : Type 0 where

@@ -4,7 +4,7 @@ use mathlib.Core.Bool.{Bool, true, false}
 use mathlib.Core.List.{List, [], _∷_}
 use Prim.Native.Nat.{ℕ, _^_, _<_}
 use lib.ListN.{getD, length}
-use Rattle.sets.specs.Sets.{bit, _∈_}
+use Rattle.sets.specs.Sets.{bit, _isIn_}
 
 -- Row x of the I table is the set of the juniors that x has by I, row x of the A table those by A; an IA edge is in both.
 -- The mathematics stands on this record alone, whatever a board of the code holds besides.
@@ -25,7 +25,7 @@ pub record IsTable (t : List ℕ) : Type 0 where
   pub fits : (x : ℕ) → row t x < 2 ^ 64
 
 abbrev pub Live : Tables → ℕ → Type 0
-Live t x = x ∈ t .live
+Live t x = x isIn t .live
 
 -- Its range of role numbers: 64 rows, and no set has a member above 63. The code's types say so of every board.
 pub record Shaped (t : Tables) : Type 0 where

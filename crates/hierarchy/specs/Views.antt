@@ -5,8 +5,8 @@ use mathlib.Core.Bool.{Bool, true, false}
 use mathlib.Core.Logic.{_≢_, _⊎_, _↔_}
 use mathlib.Core.List.{List}
 use Prim.Native.Nat.{ℕ, suc, _≤_, _<_}
-use lib.ListN.{length, replicate}
-use Rattle.sets.specs.Sets.{_∈_}
+use lib.ListN.{length}
+use Rattle.sets.specs.Sets.{_isIn_}
 use Rattle.sets.specs.declared.Pick.{Pick}
 use Rattle.sets.specs.declared.Pick.the-variants.{Role, Nobody}
 use Rattle.hierarchy.specs.declared.scopes.Climbed.{Climbed}
@@ -17,13 +17,15 @@ use Rattle.hierarchy.specs.Words.{Derives, Reaches, Chain}
 -- y is led to, through one table alone, from a role of s
 pub record Led (rows : List ℕ) (s y : ℕ) : Type 0 where
   pub start : ℕ
-  pub member : start ∈ s
+  pub member : start isIn s
   pub chain : Chain rows start y
 
--- down and up are the views of t
+-- down and up are the views of t, a row for each role
 pub record AreViews (t : Tables) (down up : List ℕ) : Type 0 where
-  pub down-is : (x y : ℕ) → (y ∈ row down x) ↔ Derives t x y
-  pub up-is : (x y : ℕ) → (x ∈ row up y) ↔ Derives t x y
+  pub down-rows : length down ≡ 64
+  pub up-rows : length up ≡ 64
+  pub down-is : (x y : ℕ) → (y isIn row down x) ↔ Derives t x y
+  pub up-is : (x y : ℕ) → (x isIn row up y) ↔ Derives t x y
 
 -- The live roles are in order: all juniors of theirs live, and none reaches itself. Where entries join live roles, this is that there
 -- is no loop (`Rattle.hierarchy.proofs.Order`, `order-loopless`).
@@ -31,19 +33,17 @@ pub record InOrder (t : Tables) : Type 0 where
   pub juniors : (x y : ℕ) → Live t x → kind t x y ≢ 0 → Live t y
   pub loopless : (x : ℕ) → Live t x → Reaches t x x → ⊥
 
--- Both views where there is order; where there is none, both are blank.
-pub record InOrderViews (t : Tables) (down up : List ℕ) (order : Bool) : Type 0 where
+-- Whether there is order. Where there is, what is lent holds both views at the end; where there is none, it is as it was.
+pub record InOrderViews (t : Tables) (down up : List ℕ) (order : Bool) (down′ up′ : List ℕ) : Type 0 where
   pub in-order : (order ≡ true) ↔ InOrder t
-  pub views : order ≡ true → AreViews t down up
-  pub blank : order ≡ false → (down ≡ replicate 64 0) × (up ≡ replicate 64 0)
-  pub down-rows : length down ≡ 64
-  pub up-rows : length up ≡ 64
+  pub views : order ≡ true → AreViews t down′ up′
+  pub left : order ≡ false → (down′ ≡ down) × (up′ ≡ up)
 
 -- r is in the scope of a
 pub record ScopeBy (down up : List ℕ) (a r : ℕ) : Type 0 where
-  pub derives : r ∈ row down a
-  pub derived : a ∈ row up r
-  pub rivals : (x : ℕ) → x ∈ row up r → (x ∈ row up a) ⊎ (x ∈ row down a)
+  pub derives : r isIn row down a
+  pub derived : a isIn row up r
+  pub rivals : (x : ℕ) → x isIn row up r → (x isIn row up a) ⊎ (x isIn row down a)
 
 -- a is an administrator of r
 pub record AdminBy (down up : List ℕ) (a r : ℕ) : Type 0 where
@@ -53,16 +53,16 @@ pub record AdminBy (down up : List ℕ) (a r : ℕ) : Type 0 where
 -- m is the line manager of r
 pub record ManagerBy (down up : List ℕ) (m r : ℕ) : Type 0 where
   pub admin : AdminBy down up m r
-  pub lowest : (a : ℕ) → AdminBy down up a r → a ≢ m → a ∈ row up m
+  pub lowest : (a : ℕ) → AdminBy down up a r → a ≢ m → a isIn row up m
 
 -- m is the administrator, of those given, that all others derive
 pub record Nearest (up : List ℕ) (administrators m : ℕ) : Type 0 where
-  pub member : m ∈ administrators
-  pub lowest : (a : ℕ) → a ∈ administrators → a ≢ m → a ∈ row up m
+  pub member : m isIn administrators
+  pub lowest : (a : ℕ) → a isIn administrators → a ≢ m → a isIn row up m
 
 -- each role of live, but role 0, has an administrator
 abbrev pub ManagedBy : ℕ → List ℕ → List ℕ → Type 0
-ManagedBy live down up = (r : ℕ) → r ∈ live → r ≢ 0 → (a : ℕ) × AdminBy down up a r
+ManagedBy live down up = (r : ℕ) → r isIn live → r ≢ 0 → (a : ℕ) × AdminBy down up a r
 
 -- the line manager as an answer. Views of tables without loops have one at most; of two, the lower number is given.
 abbrev pub Managing : List ℕ → List ℕ → ℕ → Pick → Type 0

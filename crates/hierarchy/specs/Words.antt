@@ -3,7 +3,7 @@ use mathlib.Core.Path.{_≡_}
 use mathlib.Core.Logic.{_≢_, _⊎_}
 use mathlib.Core.List.{List}
 use Prim.Native.Nat.{ℕ, suc}
-use Rattle.sets.specs.Sets.{_∈_}
+use Rattle.sets.specs.Sets.{_isIn_}
 use Rattle.hierarchy.specs.Tables.{Tables, row, Live, Shaped, kind, join}
 
 -- ---- paths
@@ -26,7 +26,7 @@ pub record Derives (t : Tables) (x y : ℕ) : Type 0 where
 -- going down through one table only, by no step or more
 pub data Chain (rows : List ℕ) : ℕ → ℕ → Type 0 where
   stop : {x : ℕ} → Chain rows x x
-  step : {x y z : ℕ} → y ∈ row rows x → Chain rows y z → Chain rows x z
+  step : {x y z : ℕ} → y isIn row rows x → Chain rows y z → Chain rows x z
 
 -- The other wording of deriving: by A alone down to a live role, and from there by I alone
 pub record Splits (t : Tables) (x y : ℕ) : Type 0 where

@@ -4,7 +4,8 @@
 // Nothing is asked of them: tables that are not sound get the answer that the definitions give. Views are the two tables
 // that are worked out once a board and handed on: down, what each role derives, and up, what derives it. All tables are lent,
 // since a copy of one costs as much as working out a small board.
+pub mod entries;
 pub mod kinds;
-pub mod loops;
 pub mod scopes;
+mod shape;
 pub mod views;

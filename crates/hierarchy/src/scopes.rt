@@ -1,12 +1,12 @@
-// Scopes, administrators and line managers, read off the views of a board, which are lent. A table that is lent has 64 rows; its type
-// doesn't tell the prover so, and where a role above 63 may be asked for, the promise names it.
+// Scopes, administrators and line managers, read off the views of a board, which are lent: whatever two tables are lent, the answer is
+// the one read off them.
 ghost use mathlib.Core.Path.{_≡_};
 ghost use mathlib.Core.Bool.{true};
 ghost use mathlib.Core.Logic.{_↔_};
 ghost use Prim.Native.Nat.{ℕ, _<_};
-ghost use lib.ListN.{length};
-ghost use Rattle.sets.specs.Sets.{_∈_};
+ghost use Rattle.sets.specs.Sets.{_isIn_};
 ghost use Rattle.hierarchy.specs.Views.{ScopeBy, AdminBy, ManagedBy, Nearest, Managing, IsRole, Climbing};
+use crate::shape::whole;
 use sets::Pick;
 use sets::but_lowest;
 use sets::has;
@@ -39,7 +39,7 @@ fn in_scope<'v>(down: &'v [u64; 64], up: &'v [u64; 64], a: usize, r: usize) -> b
 // The scope of a.
 fn scope_of<'v>(down: &'v [u64; 64], up: &'v [u64; 64], a: usize) -> u64
     requires { ⌜ a < 64 ⌝ }
-    ensures { λ y. ⌜ ((r : ℕ) → (r ∈ y) ↔ ScopeBy (now (down .entry)) (now (up .entry)) a r) ⌝ }
+    ensures { λ y. ⌜ ((r : ℕ) → (r isIn y) ↔ ScopeBy (now (down .entry)) (now (up .entry)) a r) ⌝ }
 {
     let mut found: u64 = 0;
     let mut rest = down[a];
@@ -57,7 +57,7 @@ fn scope_of<'v>(down: &'v [u64; 64], up: &'v [u64; 64], a: usize) -> u64
 // The administrators of r.
 fn administrators_of<'v>(down: &'v [u64; 64], up: &'v [u64; 64], r: usize) -> u64
     requires { ⌜ r < 64 ⌝ }
-    ensures { λ y. ⌜ ((a : ℕ) → (a ∈ y) ↔ AdminBy (now (down .entry)) (now (up .entry)) a r) ⌝ }
+    ensures { λ y. ⌜ ((a : ℕ) → (a isIn y) ↔ AdminBy (now (down .entry)) (now (up .entry)) a r) ⌝ }
 {
     let mut found: u64 = 0;
     let mut rest = without(up[r], r);
@@ -74,7 +74,7 @@ fn administrators_of<'v>(down: &'v [u64; 64], up: &'v [u64; 64], r: usize) -> u6
 
 // Those of the administrators that all others derive: one at most, where there is no loop.
 fn nearest(up: &[u64; 64], administrators: u64) -> u64
-    ensures { λ y. ⌜ ((m : ℕ) → (m ∈ y) ↔ Nearest (now (up .entry)) administrators m) ⌝ }
+    ensures { λ y. ⌜ ((m : ℕ) → (m isIn y) ↔ Nearest (now (up .entry)) administrators m) ⌝ }
 {
     let mut found: u64 = 0;
     let mut rest = administrators;
@@ -133,37 +133,40 @@ pub fn managed<'v>(live: u64, down: &'v [u64; 64], up: &'v [u64; 64]) -> bool
 
 // The scope of a, as a set.
 pub fn scope<'v>(down: &'v [u64; 64], up: &'v [u64; 64], a: usize) -> u64
-    ensures { λ y. ⌜ (length (now (down .entry)) ≡ 64 → (r : ℕ) → (r ∈ y) ↔ ScopeBy (now (down .entry)) (now (up .entry)) a r) ⌝ }
+    ensures { λ y. ⌜ ((r : ℕ) → (r isIn y) ↔ ScopeBy (now (down .entry)) (now (up .entry)) a r) ⌝ }
 {
     if a < 64 {
         return scope_of(down, up, a);
     }
+    whole(*down);
     0
 }
 
 // The administrators of r, as a set.
 pub fn administrators<'v>(down: &'v [u64; 64], up: &'v [u64; 64], r: usize) -> u64
-    ensures { λ y. ⌜ (length (now (up .entry)) ≡ 64 → (a : ℕ) → (a ∈ y) ↔ AdminBy (now (down .entry)) (now (up .entry)) a r) ⌝ }
+    ensures { λ y. ⌜ ((a : ℕ) → (a isIn y) ↔ AdminBy (now (down .entry)) (now (up .entry)) a r) ⌝ }
 {
     if r < 64 {
         return administrators_of(down, up, r);
     }
+    whole(*up);
     0
 }
 
 // The line manager of r, or nobody.
 pub fn manager<'v>(down: &'v [u64; 64], up: &'v [u64; 64], r: usize) -> Pick
-    ensures { λ y. ⌜ IsRole y × (length (now (up .entry)) ≡ 64 → Managing (now (down .entry)) (now (up .entry)) r y) ⌝ }
+    ensures { λ y. ⌜ IsRole y × Managing (now (down .entry)) (now (up .entry)) r y ⌝ }
 {
     if r < 64 {
         return manager_of(down, up, r);
     }
+    whole(*up);
     Pick::Nobody
 }
 
 // The steps from r to role 0 by line managers. Sound tables need fewer than 64; where there is no line manager the climb stops.
 pub fn steps<'v>(down: &'v [u64; 64], up: &'v [u64; 64], r: usize) -> Climbed
-    ensures { λ y. ⌜ (length (now (up .entry)) ≡ 64 → Climbing (now (down .entry)) (now (up .entry)) r y) ⌝ }
+    ensures { λ y. ⌜ Climbing (now (down .entry)) (now (up .entry)) r y ⌝ }
 {
     let mut x = r;
     let mut n: usize = 0;

@@ -3,13 +3,12 @@ ghost use mathlib.Core.Path.{_≡_};
 ghost use mathlib.Core.Logic.{_↔_};
 ghost use Prim.Native.Nat.{ℕ, _<_};
 ghost use lib.ListN.{length, replicate};
-ghost use Rattle.sets.specs.Sets.{_∈_};
+ghost use Rattle.sets.specs.Sets.{_isIn_};
 ghost use Rattle.hierarchy.specs.Tables.{tables};
-ghost use Rattle.hierarchy.specs.Views.{Led, AreViews, InOrderViews};
-ghost use Rattle.hierarchy.specs.Engine.{InRows, OneOf, Settled, Right, Swept, Ordered, IsDown, IsUp, Marked};
+ghost use Rattle.hierarchy.specs.Views.{InOrderViews};
+ghost use Rattle.hierarchy.specs.Engine.{InRows, OneOf, Settled, Right, Swept, Ordered, IsUp, Marked};
 use sets::Pick;
 use sets::but_lowest;
-use sets::common;
 use sets::highest;
 use sets::lowest;
 use sets::minus;
@@ -19,24 +18,9 @@ use sets::with;
 use sets::within;
 use sets::without;
 
-// What the roles of seed lead to through one table, they themselves included. Each turn settles one role, so there are at most 64.
-pub fn closure(table: &[u64; 64], seed: u64) -> u64
-    ensures { λ r. ⌜ ((y : ℕ) → (y ∈ r) ↔ Led (now (table .entry)) seed y) ⌝ }
-{
-    let mut done: u64 = 0;
-    let mut todo = seed;
-    loop {
-        let Pick::Role(x) = lowest(todo) else {
-            return done;
-        };
-        done = with(done, x);
-        todo = minus(union(todo, table[x]), done);
-    }
-}
-
 // The union of the rows of the roles of s.
 fn rows(table: &[u64; 64], s: u64) -> u64
-    ensures { λ r. ⌜ ((z : ℕ) → (z ∈ r) ↔ InRows (now (table .entry)) s z) ⌝ }
+    ensures { λ r. ⌜ ((z : ℕ) → (z isIn r) ↔ InRows (now (table .entry)) s z) ⌝ }
 {
     let mut sum: u64 = 0;
     let mut rest = s;
@@ -133,22 +117,6 @@ fn order<'t>(
     }
 }
 
-// What each live role derives, whatever order there is: by A and from there by I, among the live. Roles on the way to a loop can't be
-// settled by their juniors, so each gets closures of its own.
-fn closures<'t>(live: u64, i: &'t [u64; 64], a: &'t [u64; 64], down: &mut [u64; 64])
-    requires { ⌜ now down ≡ replicate 64 0 ⌝ }
-    ensures { λ _. ⌜ IsDown (tables live (now (i .entry)) (now (a .entry))) (now (down .exit)) ⌝ }
-{
-    let mut rest = live;
-    loop {
-        let Pick::Role(x) = lowest(rest) else {
-            return;
-        };
-        down[x] = common(live, closure(i, closure(a, single(x))));
-        rest = but_lowest(rest);
-    }
-}
-
 // x goes into the row of each role of s.
 fn mark(up: &mut [u64; 64], s: u64, x: usize)
     requires { ⌜ (x < 64) × (length (now up) ≡ 64) ⌝ }
@@ -179,8 +147,8 @@ fn turn(live: u64, down: &[u64; 64], up: &mut [u64; 64])
     }
 }
 
-// Both views of a board whose live roles are in order: row x of `down` is the set of what x derives, row y of `up` the set of what
-// derives y. Where there is no order, both are left blank, and nothing is worked out.
+// Both views of a board whose live roles are in order: row x of `down` becomes the set of what x derives, row y of `up` the set of what
+// derives y. Where there is no order, both stay as they were.
 pub fn views_in_order<'t>(
     live: u64,
     i: &'t [u64; 64],
@@ -188,31 +156,14 @@ pub fn views_in_order<'t>(
     down: &mut [u64; 64],
     up: &mut [u64; 64],
 ) -> bool
-    ensures { λ r. ⌜ InOrderViews (tables live (now (i .entry)) (now (a .entry))) (now (down .exit)) (now (up .exit)) r ⌝ }
+    ensures { λ r. ⌜ InOrderViews (tables live (now (i .entry)) (now (a .entry))) (now (down .entry)) (now (up .entry)) r (now (down .exit)) (now (up .exit)) ⌝ }
 {
     let mut by_i = [0u64; 64];
-    blank(down);
-    if order(live, i, a, &mut by_i, down) != live {
-        blank(down);
-        blank(up);
+    let mut derived = [0u64; 64];
+    if order(live, i, a, &mut by_i, &mut derived) != live {
         return false;
     }
-    turn(live, down, up);
+    turn(live, &derived, up);
+    *down = derived;
     true
-}
-
-// Both views of any board.
-pub fn work_out<'t>(
-    live: u64,
-    i: &'t [u64; 64],
-    a: &'t [u64; 64],
-    down: &mut [u64; 64],
-    up: &mut [u64; 64],
-)
-    ensures { λ _. ⌜ AreViews (tables live (now (i .entry)) (now (a .entry))) (now (down .exit)) (now (up .exit)) ⌝ }
-{
-    if !views_in_order(live, i, a, down, up) {
-        closures(live, i, a, down);
-        turn(live, down, up);
-    }
 }

@@ -1,27 +1,33 @@
--- The values fit into their part of an answer. Assumes nothing.
+-- The parts of an answer put together, and that each fits its part. Assumes nothing.
+use mathlib.Core.Path.{_≡_, refl, ap, ap₂, _∙_}
 use mathlib.Core.Bool.{Bool}
 use mathlib.Core.Logic.{dite}
-use Prim.Native.Nat.{ℕ, _^_, _≤_, _<_}
+use mathlib.Core.List.{List}
+use Prim.Native.Nat.{ℕ, _≤_, _<_}
 use native.Mathlib.Decide.{ℕ-discrete}
 use native.Mathlib.Omega.{arith}
 use lib.Count.{ones-le}
 use Rattle.sets.proofs.Laws.{ones-mono}
-use Rattle.hierarchy.specs.Words.{Sound}
 use Rattle.hierarchy.proofs.Theorems.{climb-short}
-use Rattle.board.specs.Boards.{tablesOf}
-use Rattle.board.specs.Questions.{ScopeAnswer, StepsAnswer}
-use Rattle.board.specs.declared.Board.{Board}
+use Rattle.boardfile.specs.Answers.{ScopeOnFile, StepsOnFile}
+use Rattle.host.specs.Answers.{answer, placeOf}
 
 -- a scope has at most 64 roles: they are live
-pub count-small : (b : Board) (a r n : ℕ) (p : Bool) (count : ℕ) → b .live < 2 ^ 64 → ScopeAnswer b a r n p count → count ≤ 64
-count-small b a r n p count fits s = dite (ℕ-discrete n 0)
+pub count-small : {f : List ℕ} (a r : ℕ) {n count : ℕ} {said : Bool} → ScopeOnFile f a r n said count → count ≤ 64
+count-small a r {n} {count} s = dite (ℕ-discrete n 0)
     (λ z.
-    let k = s .counted z in
-    omega (arith, k .2, ones-mono (k .0) (b .live) (λ x m. k .1 x .0 m .derives .to), ones-le 64 (b .live) fits))
-    (λ z. omega (arith, s .refused z .1))
+    let w = s .done z in
+    let k = w .2 .1 in
+    let sound = w .1 .done refl .1 in
+    omega (arith, k .2, ones-mono (k .0) (w .0 .live) (λ x m. k .1 x .0 m .derives .to), ones-le 64 (w .0 .live) (sound .shaped .live-fits)))
+    (λ z. let e : count ≡ 0 = ap (λ (v : Bool × ℕ). v .1) (s .refused z) in omega arith)
 
 -- and so a climb has less than 64 steps
-pub steps-small : (b : Board) (r n steps : ℕ) → Sound (tablesOf b) → StepsAnswer b r n steps → steps < 64
-steps-small b r n steps sound s = dite (ℕ-discrete n 0)
-    (λ z. omega (arith, climb-short sound (s .done z), ones-le 64 (b .live) (sound .shaped .live-fits)))
+pub steps-small : {f : List ℕ} (r : ℕ) {n steps : ℕ} → StepsOnFile f r n steps → steps < 64
+steps-small r {n} s = dite (ℕ-discrete n 0)
+    (λ z. let w = s .done z in let sound = w .1 .done refl .1 in omega (arith, climb-short sound (w .2), ones-le 64 (w .0 .live) (sound .shaped .live-fits)))
     (λ z. omega (arith, s .refused z))
+
+-- an answer to a question, from its parts as they were worked out
+pub packs : (n p v : ℕ) {r w : ℕ} → r ≡ answer n p v → p ≡ placeOf n → v ≡ w → r ≡ answer n (placeOf n) w
+packs n p v e g h = e ∙ ap₂ (λ (k u : ℕ). answer n k u) g h

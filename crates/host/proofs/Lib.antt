@@ -2,6 +2,4 @@
 -- functions stand on.
 pub mod Settled
 pub mod Apart
-pub mod Places
 pub mod Bounds
-pub mod Reading

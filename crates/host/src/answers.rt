@@ -2,24 +2,51 @@
 ghost use mathlib.Core.Path.{_≡_};
 ghost use Prim.Native.Nat.{_+_, _*_, _≤_};
 ghost use Rattle.sets.specs.Sets.{num};
-ghost use Rattle.host.specs.Answers.{answer, managerOr64};
+ghost use Rattle.host.specs.Answers.{answer, placeOf, placeNumber, managerOr64};
 use board::questions::Manager;
+use boardfile::commands::Place;
 
 // Where an answer arose: the command or the question, the file, the writing.
-pub(crate) const ASKED: u8 = 0;
+const ASKED: u8 = 0;
 
-pub(crate) const FILE: u8 = 1;
+const FILE: u8 = 1;
 
-pub(crate) const WRITING: u8 = 2;
+const WRITING: u8 = 2;
 
 // what stands for no line manager
-pub(crate) const NONE: u16 = 64;
+const NONE: u16 = 64;
 
 // The three parts of an answer in one number.
-pub(crate) fn packed(number: u8, place: u8, value: u16) -> u32
+pub(crate) fn packed(number: u8, place: u8, value: u16) -> u64
     ensures { λ r. ⌜ r ≡ answer number place value ⌝ }
 {
-    number as u32 + 256 * (place as u32) + 65536 * (value as u32)
+    number as u64 + 256 * (place as u64) + 65536 * (value as u64)
+}
+
+// Where the number of a question about a file arose: its own refusals are 2 and 3, all others are the file's.
+pub(crate) fn place_of(number: u8) -> u8
+    ensures { λ r. ⌜ r ≡ placeOf number ⌝ }
+{
+    if number == 0 {
+        return ASKED;
+    }
+    if number == 2 {
+        return ASKED;
+    }
+    if number == 3 {
+        return ASKED;
+    }
+    FILE
+}
+
+pub(crate) fn place_number(place: Place) -> u8
+    ensures { λ r. ⌜ r ≡ placeNumber place ⌝ }
+{
+    match place {
+        Place::Asked => ASKED,
+        Place::File => FILE,
+        Place::Writing => WRITING,
+    }
 }
 
 pub(crate) fn one_if(yes: bool) -> u16

@@ -48,6 +48,10 @@ iff-same true q f g = sym (f refl)
 iff-same false true f g = g refl
 iff-same false false f g = refl
 
+-- two tests of one fact: what settles a yes or no
+pub test-unique : {P : Type 0} {p q : Bool} → (p ≡ true) ↔ P → (q ≡ true) ↔ P → p ≡ q
+test-unique {p = p} {q = q} f g = iff-same p q (λ e. g .1 (f .0 e)) (λ e. f .1 (g .0 e))
+
 -- what a test decides
 pub decided : {P : Type 0} (p : Bool) → (p ≡ true) ↔ P → Dec P
 decided true h = yes (h .0 refl)

@@ -2,17 +2,17 @@
 use mathlib.Core.Path.{_≡_, refl, sym, ap, _∙_, subst}
 use mathlib.Core.Bool.{Bool, true, false, not, _&&_, and-true, and-false}
 use mathlib.Core.Logic.{_⊎_, ⊎-elim, _↔_, dite}
-use Prim.Native.Nat.{ℕ, zero, suc, _-_, _*_, _/_, _%_, _^_, _≤_, _<_, zero-le, suc-le-suc}
-use native.Mathlib.Nat.{mod-lt, mod-eq-of-lt, one-mul, le-refl, le-antisymm, le-of-suc-le-suc, pow-suc, mul-comm, div-lt-iff-lt-mul, le-div-iff-mul-le}
+use Prim.Native.Nat.{ℕ, zero, suc, _+_, _-_, _*_, _/_, _%_, _^_, _≤_, _<_, zero-le, suc-le-suc}
+use native.Mathlib.Nat.{mod-lt, mod-eq-of-lt, one-mul, le-refl, le-trans, le-antisymm, le-of-suc-le-suc, pow-suc, mul-comm, div-lt-iff-lt-mul, le-div-iff-mul-le}
 use native.Mathlib.Decide.{ℕ-discrete}
 use native.Mathlib.Omega.{arith}
 use lib.Dec.{eqb, eqb·suc-zero, eqb·suc-suc, ltb, lit<}
 use lib.Arith.{bin-ind}
-use lib.Pow.{pow-lt, pow-pos}
+use lib.Pow.{pow-lt, pow-pos, pow-mono}
 use lib.Bits.{and-mask, bitAnd}
 use lib.Count.{ones, ones-step, trailingZeros, under, leadingZeros, leading-top}
 use borrow.Author.Tests.{lt-ltb, le-ltb, eqb-true, eqb-false, eq-eqb}
-use Rattle.sets.specs.Sets.{bit, _∈_, _⊆_, same?, num, setOf, LowestRole, NoRole, Lowest, ButLowest, HighestRole, Highest}
+use Rattle.sets.specs.Sets.{bit, _isIn_, _areIn_, same?, num, setOf, LowestRole, NoRole, Lowest, ButLowest, HighestRole, Highest}
 use Rattle.sets.specs.declared.Pick.{Pick}
 use Rattle.sets.specs.declared.Pick.the-variants.{Role, Nobody}
 use Rattle.sets.proofs.Bools.{true-or-false, and-left, and-both, lt-or-ge, false-no, not-so, iff-same}
@@ -20,7 +20,7 @@ use Rattle.sets.proofs.Digits.{two-pos, bit-low, bit-high, bit-zero, bi
 
 -- ---- members are roles; sets with the same members are equal
 
-pub bit-lt : (k : ℕ) {s x : ℕ} → s < 2 ^ k → x ∈ s → x < k
+pub bit-lt : (k : ℕ) {s x : ℕ} → s < 2 ^ k → x isIn s → x < k
 bit-lt k {s} {x} h e = ⊎-elim (λ l. l) (λ g. absurd (false-no (bit-out k s x h g) e)) (lt-or-ge x k)
 
 pub ext : (k s t : ℕ) → s < 2 ^ k → t < 2 ^ k → ((x : ℕ) → x < k → bit s x ≡ bit t x) → s ≡ t
@@ -29,6 +29,17 @@ ext (suc k) s t hs ht f =
     let up : s / 2 ≡ t / 2 = ext k (s / 2) (t / 2) (half-lt k s hs) (half-lt k t ht) (λ x l. sym (bit-high s x) ∙ f (suc x) (suc-le-suc l) ∙ bit-high t x) in
     let low : s % 2 ≡ t % 2 = low-num s ∙ ap num (f 0 (suc-le-suc zero-le)) ∙ sym (low-num t) in
     omega arith
+
+-- and whatever the numbers: each lies below a power of two
+below-pow : (n : ℕ) → n < 2 ^ n
+below-pow zero = lit< tt
+below-pow (suc n) = omega (arith, below-pow n, pow-suc 2 n)
+
+pub same-members : (s t : ℕ) → ((x : ℕ) → (x isIn s) ↔ (x isIn t)) → s ≡ t
+same-members s t f = ext (s + t) s t
+    (le-trans (below-pow s) (pow-mono (omega arith)))
+    (le-trans (below-pow t) (pow-mono (omega arith)))
+    (λ x _. iff-same (bit s x) (bit t x) (f x .0) (f x .1))
 
 -- no member: the empty set
 pub no-members : (s : ℕ) → s < 2 ^ 64 → ((x : ℕ) → bit s x ≡ false) → s ≡ 0
@@ -75,7 +86,7 @@ bit-shift r x l =
 -- ---- parts
 
 -- a set whose difference from t is empty is a part of t, and the other way round
-pub minus-part : (s t d : ℕ) → d < 2 ^ 64 → ((x : ℕ) → bit d x ≡ (bit s x && not (bit t x))) → (eqb d 0 ≡ true) ↔ (s ⊆ t)
+pub minus-part : (s t d : ℕ) → d < 2 ^ 64 → ((x : ℕ) → bit d x ≡ (bit s x && not (bit t x))) → (eqb d 0 ≡ true) ↔ (s areIn t)
 minus-part s t d h e = (
   λ z x m. ⊎-elim (λ y. y)
       (λ n. let w : bit d x ≡ true = e x ∙ and-both (bit s x) (not (bit t x)) m (ap not n) in cc (bit-zero x, ap (λ (k : ℕ). bit k x) (eqb-true d 0 z)))
@@ -88,7 +99,7 @@ minus-part s t d h e = (
 
 -- ---- the lowest role
 
-pub bit-lowest : (k s : ℕ) → 0 < s → s < 2 ^ k → trailingZeros k s ∈ s
+pub bit-lowest : (k s : ℕ) → 0 < s → s < 2 ^ k → trailingZeros k s isIn s
 unfolding trailingZeros
 bit-lowest zero s p h = absurd (omega arith)
 bit-lowest (suc k) s p h = go (s % 2) refl (λ q. bit-lowest k (s / 2) q (half-lt k s h))
@@ -99,7 +110,7 @@ bit-lowest (suc k) s p h = go (s % 2) refl (λ q. bit-lowest k (s / 2) q (half-l
         let one : s % 2 ≡ 1 = omega (arith, mod-lt s two-pos) in
         bit-low s ∙ ap (λ (x : ℕ). eqb x 1) one
 
-pub lowest-least : (k s x : ℕ) → x ∈ s → trailingZeros k s ≤ x
+pub lowest-least : (k s x : ℕ) → x isIn s → trailingZeros k s ≤ x
 unfolding trailingZeros
 lowest-least zero s x e = zero-le
 lowest-least (suc k) s x e = go (s % 2) refl x e (λ y. lowest-least k (s / 2) y)
@@ -127,7 +138,7 @@ highest-unique s Nobody (Role n) h g = absurd (false-no (h .none n) (g .member))
 highest-unique s Nobody Nobody h g = refl
 
 -- a number between 2 ^ r and 2 ^ (r + 1) has digit r, and none above
-bit-top : (s r : ℕ) → 2 ^ r ≤ s → s < 2 ^ suc r → r ∈ s
+bit-top : (s r : ℕ) → 2 ^ r ≤ s → s < 2 ^ suc r → r isIn s
 unfolding bit
 bit-top s r l h = ap (λ (n : ℕ). eqb (n % 2) 1) (le-antisymm (lt-succ (div-lt-iff-lt-mul (pow-pos r) .1 (subst (λ (n : ℕ). s < n) (pow-suc 2 r ∙ mul-comm (2 ^ r) 2) h))) (le-div-iff-mul-le (pow-pos r) .1 (subst (λ (n : ℕ). n ≤ s) (sym (one-mul (2 ^ r))) l)))
   where
@@ -171,7 +182,7 @@ num-mono true q h = rw (h refl) (le-refl 1)
 num-mono false q h = zero-le
 
 -- a part has at most as many
-pub ones-mono : (s t : ℕ) → s ⊆ t → ones s ≤ ones t
+pub ones-mono : (s t : ℕ) → s areIn t → ones s ≤ ones t
 ones-mono s =
     bin-ind (λ (n : ℕ). (t : ℕ) → ((x : ℕ) → bit n x ≡ true → bit t x ≡ true) → ones n ≤ ones t)
     (λ t h. unfold ones in zero-le)
@@ -181,7 +192,7 @@ ones-mono s =
     omega (arith, ones-step n, ones-step t, low-num n, low-num t)) s
 
 -- a part that lacks a member has fewer
-pub ones-more : (s t r : ℕ) → bit s r ≡ false → r ∈ t → s ⊆ t → ones s < ones t
+pub ones-more : (s t r : ℕ) → bit s r ≡ false → r isIn t → s areIn t → ones s < ones t
 ones-more s t zero p q h =
     let up : ones (s / 2) ≤ ones (t / 2) = ones-mono (s / 2) (t / 2) (λ x e. sym (bit-high t x) ∙ h (suc x) (bit-high s x ∙ e)) in
     let ls : num (bit s 0) ≡ 0 = ap num p in
@@ -194,15 +205,15 @@ ones-more s t (suc r) p q h =
     omega (arith, ones-step s, ones-step t, low-num s, low-num t)
 
 -- a part with as many is the whole
-pub part-whole : (s t : ℕ) → s < 2 ^ 64 → t < 2 ^ 64 → s ⊆ t → ones t ≤ ones s → s ≡ t
+pub part-whole : (s t : ℕ) → s < 2 ^ 64 → t < 2 ^ 64 → s areIn t → ones t ≤ ones s → s ≡ t
 part-whole s t hs ht p c = ext 64 s t hs ht (λ x _. iff-same (bit s x) (bit t x) (p x) (back x))
   where
-    back : (x : ℕ) → x ∈ t → x ∈ s
+    back : (x : ℕ) → x isIn t → x isIn s
     back x m = ⊎-elim (λ e. e) (λ e. absurd (omega (arith, ones-more s t x e m p))) (true-or-false (bit s x))
 
 -- ---- one member goes
 
-pub ones-less : (s t r : ℕ) → r < 64 → r ∈ s → ((x : ℕ) → bit t x ≡ (bit s x && not (same? r x))) → ones t < ones s
+pub ones-less : (s t r : ℕ) → r < 64 → r isIn s → ((x : ℕ) → bit t x ≡ (bit s x && not (same? r x))) → ones t < ones s
 ones-less s t r l m e =
     ones-more t s r
     (e r ∙ ap (λ (p : Bool). bit s r && not p) (same-self r l) ∙ and-false (bit s r))

@@ -4,7 +4,7 @@ use mathlib.Core.Bool.{Bool, false, not, _&&_, and-true}
 use mathlib.Core.Logic.{_⊎_, inl, inr, ⊎-elim}
 use Prim.Native.Nat.{ℕ, _<_}
 use lib.Count.{ones}
-use Rattle.sets.specs.Sets.{bit, _∈_, _⊆_, same?, LowestRole, NoRole, Lowest, ButLowest}
+use Rattle.sets.specs.Sets.{bit, _isIn_, _areIn_, same?, LowestRole, NoRole, Lowest, ButLowest}
 use Rattle.sets.specs.declared.Pick.{Pick}
 use Rattle.sets.specs.declared.Pick.the-variants.{Role, Nobody}
 use Rattle.sets.proofs.Bools.{true-or-false, and-left, and-both}
@@ -13,14 +13,14 @@ use Rattle.sets.proofs.Laws.{same-eq, ones-less}
 -- one turn: the role x of rest goes
 pub record Drawn (rest x rest′ : ℕ) : Type 0 where
   pub role : x < 64
-  pub member : x ∈ rest
+  pub member : x isIn rest
   pub rest-is : (y : ℕ) → bit rest′ y ≡ (bit rest y && not (same? x y))
 
 module _ {rest x rest′ : ℕ} (t : Drawn rest x rest′) where
   pub drawn-less : ones rest′ < ones rest
   drawn-less = ones-less rest rest′ x (t .role) (t .member) (t .rest-is)
 
-  pub drawn-part : rest′ ⊆ rest
+  pub drawn-part : rest′ areIn rest
   drawn-part y e = and-left (bit rest y) (not (same? x y)) (sym (t .rest-is y) ∙ e)
 
   -- what is left out of rest′ was left out of rest, or is x
@@ -31,7 +31,7 @@ module _ {rest x rest′ : ℕ} (t : Drawn rest x rest′) where
       (true-or-false (same? x y))
 
   -- what was in rest is in rest′, or is x
-  pub drawn-kept : (y : ℕ) → y ∈ rest → (y ∈ rest′) ⊎ (y ≡ x)
+  pub drawn-kept : (y : ℕ) → y isIn rest → (y isIn rest′) ⊎ (y ≡ x)
   drawn-kept y e = ⊎-elim
       (λ s. inr (same-eq x y s))
       (λ n. inl (t .rest-is y ∙ and-both (bit rest y) (not (same? x y)) e (ap not n)))
@@ -49,13 +49,13 @@ module _ {rest x rest′ : ℕ} (t : Taken rest x rest′) where
   pub taken-less : ones rest′ < ones rest
   taken-less = drawn-less drawn
 
-  pub taken-part : rest′ ⊆ rest
+  pub taken-part : rest′ areIn rest
   taken-part = drawn-part drawn
 
   pub taken-cases : (y : ℕ) → bit rest′ y ≡ false → (bit rest y ≡ false) ⊎ (y ≡ x)
   taken-cases = drawn-cases drawn
 
-  pub taken-kept : (y : ℕ) → y ∈ rest → (y ∈ rest′) ⊎ (y ≡ x)
+  pub taken-kept : (y : ℕ) → y isIn rest → (y isIn rest′) ⊎ (y ≡ x)
   taken-kept = drawn-kept drawn
 
 pub taken-by : {rest x rest′ : ℕ} → LowestRole rest x → ButLowest rest rest′ → Taken rest x rest′

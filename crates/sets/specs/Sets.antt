@@ -10,14 +10,14 @@ use Rattle.sets.specs.declared.Pick.the-variants.{Role, Nobody}
 unfoldable pub bit : ℕ → ℕ → Bool
 bit s r = eqb (s / 2 ^ r % 2) 1
 
-infix 4 _∈_
-abbrev pub _∈_ : ℕ → ℕ → Type 0
-r ∈ s = bit s r ≡ true
+infix 4 _isIn_
+abbrev pub _isIn_ : ℕ → ℕ → Type 0
+r isIn s = bit s r ≡ true
 
 -- every role of s is in t
-infix 4 _⊆_
-abbrev pub _⊆_ : ℕ → ℕ → Type 0
-s ⊆ t = (x : ℕ) → x ∈ s → x ∈ t
+infix 4 _areIn_
+abbrev pub _areIn_ : ℕ → ℕ → Type 0
+s areIn t = (x : ℕ) → x isIn s → x isIn t
 
 -- whether x is the role r; a number above 63 is no role
 unfoldable pub same? : ℕ → ℕ → Bool
@@ -39,8 +39,8 @@ setOf f = digits 64 f
 -- r is the lowest role of s
 pub record LowestRole (s r : ℕ) : Type 0 where
   pub role : r < 64
-  pub member : r ∈ s
-  pub least : (x : ℕ) → x ∈ s → r ≤ x
+  pub member : r isIn s
+  pub least : (x : ℕ) → x isIn s → r ≤ x
 
 pub record NoRole (s : ℕ) : Type 0 where
   pub none : (x : ℕ) → bit s x ≡ false
@@ -58,8 +58,8 @@ pub record ButLowest (s t : ℕ) : Type 0 where
 -- r is the highest role of s
 pub record HighestRole (s r : ℕ) : Type 0 where
   pub role : r < 64
-  pub member : r ∈ s
-  pub most : (x : ℕ) → x ∈ s → x ≤ r
+  pub member : r isIn s
+  pub most : (x : ℕ) → x isIn s → x ≤ r
 
 -- the highest role of s, or nobody where s has none
 abbrev pub Highest : ℕ → Pick → Type 0

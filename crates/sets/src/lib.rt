@@ -6,7 +6,7 @@ ghost use mathlib.Core.Bool.{true, false, not, _&&_, _||_};
 ghost use mathlib.Core.Logic.{_↔_};
 ghost use Prim.Native.Nat.{ℕ};
 ghost use lib.Count.{ones};
-ghost use Rattle.sets.specs.Sets.{bit, same?, _⊆_, Lowest, ButLowest, Highest};
+ghost use Rattle.sets.specs.Sets.{bit, same?, _areIn_, Lowest, ButLowest, Highest};
 
 // One role of several, or nobody: a caller has to meet both.
 pub enum Pick {
@@ -41,13 +41,6 @@ pub fn union(s: u64, t: u64) -> u64
     s | t
 }
 
-// The roles that s and t share.
-pub fn common(s: u64, t: u64) -> u64
-    ensures { λ y. ⌜ ((x : ℕ) → bit y x ≡ (bit s x && bit t x)) ⌝ }
-{
-    s & t
-}
-
 // The roles of s that are not in t.
 pub fn minus(s: u64, t: u64) -> u64
     ensures { λ y. ⌜ ((x : ℕ) → bit y x ≡ (bit s x && not (bit t x))) ⌝ }
@@ -71,7 +64,7 @@ pub fn without(s: u64, r: usize) -> u64
 
 // Whether every role of s is in t.
 pub fn within(s: u64, t: u64) -> bool
-    ensures { λ y. ⌜ (y ≡ true) ↔ (s ⊆ t) ⌝ }
+    ensures { λ y. ⌜ (y ≡ true) ↔ (s areIn t) ⌝ }
 {
     minus(s, t) == 0
 }

@@ -1,6 +1,8 @@
+use Prim.Native.Nat.{ℕ}
+use Rattle.hierarchy.specs.Views.{ScopeBy}
 use Rattle.board.specs.Boards.{boardOf}
+use Rattle.board.specs.Looks.{Disordered}
 use Rattle.board.specs.declared.Board.{Board}
-use Rattle.board.proofs.Kept.{firm-after}
 use Rattle.board.proofs.Trying.{decided-early, decided-late, decided-done}
 use borrow.Author.Needs.{needs}
 use Rattle.board.proofs.commands.decide.Statement.{statement}
@@ -12,8 +14,11 @@ refused-before-requires c κs = search needs
 abbrev board : tie.Start → Board
 board s = boardOf (s .args .live) (s .args .i .now) (s .args .a .now)
 
+abbrev In : tie.Start → ℕ → ℕ → Type 0
+In s = ScopeBy (s .args .down .now) (s .args .up .now)
+
 returns : tie.Need-returns
-returns c = λ v. decided-early (board (c .before .before .before .before)) (c .before .before .before .before .args .c) (c .before .before .before .refused-before .result) (c .if1 .taken) (c .before .before .before .refused-before .ensures v)
+returns c = decided-early (In (c .before .before .before .before)) Disordered (board (c .before .before .before .before)) (c .before .before .before .before .args .c) (c .before .before .before .refused-before .result) (c .if1 .taken) (c .before .before .before .refused-before .ensures)
 
 after-requires : tie.Need-after-requires
 after-requires c κs = search needs
@@ -22,16 +27,14 @@ refused-after-requires : tie.Need-refused-after-requires
 refused-after-requires c κs = search needs
 
 returns-2 : tie.Need-returns-2
-returns-2 c = λ v.
-    let passed = c .before .before .before .before .before .before .before .before .before .refused-before .ensures v in
-    let firm = firm-after (board (c .before .before .before .before .before .before .before .before .before .before)) (c .before .before .before .before .before .before .before .before .before .before .args .c) (c .before .before .before .before .before .after .result) (c .before .before .before .before .before .before .before .before .before .refused-before .result) (c .before .before .before .before .before .after .ensures) (c .before .before .before .before .before .before .if1 .left) passed in
-    decided-late (board (c .before .before .before .before .before .before .before .before .before .before)) (c .before .before .before .before .before .before .before .before .before .before .args .c) (c .before .before .before .before .before .before .before .before .before .refused-before .result) (c .before .before .before .before .before .before .if1 .left) passed (c .before .before .before .before .before .after .result) (c .before .before .before .before .before .after .ensures) (c .before .refused-after .result) (c .if2 .taken) (c .before .refused-after .ensures (firm .0) (firm .1))
+returns-2 c =
+    let passed = c .before .before .before .before .before .before .before .before .before .refused-before .ensures in
+    decided-late (In (c .before .before .before .before .before .before .before .before .before .before)) Disordered (board (c .before .before .before .before .before .before .before .before .before .before)) (c .before .before .before .before .before .before .before .before .before .before .args .c) (c .before .before .before .before .before .before .before .before .before .refused-before .result) (c .before .before .before .before .before .before .if1 .left) passed (c .before .before .before .before .before .after .result) (c .before .before .before .before .before .after .ensures) (c .before .refused-after .result) (c .if2 .taken) (c .before .refused-after .ensures)
 
 returns-3 : tie.Need-returns-3
-returns-3 c = λ v.
-    let passed = c .before .before .before .before .before .before .before .before .before .refused-before .ensures v in
-    let firm = firm-after (board (c .before .before .before .before .before .before .before .before .before .before)) (c .before .before .before .before .before .before .before .before .before .before .args .c) (c .before .before .before .before .before .after .result) (c .before .before .before .before .before .before .before .before .before .refused-before .result) (c .before .before .before .before .before .after .ensures) (c .before .before .before .before .before .before .if1 .left) passed in
-    decided-done (board (c .before .before .before .before .before .before .before .before .before .before)) (c .before .before .before .before .before .before .before .before .before .before .args .c) (c .before .before .before .before .before .before .before .before .before .refused-before .result) (c .before .before .before .before .before .before .if1 .left) passed (c .before .before .before .before .before .after .result) (c .before .before .before .before .before .after .ensures) (c .before .refused-after .result) (c .if2 .left) (c .before .refused-after .ensures (firm .0) (firm .1))
+returns-3 c =
+    let passed = c .before .before .before .before .before .before .before .before .before .refused-before .ensures in
+    decided-done (In (c .before .before .before .before .before .before .before .before .before .before)) Disordered (board (c .before .before .before .before .before .before .before .before .before .before)) (c .before .before .before .before .before .before .before .before .before .before .args .c) (c .before .before .before .before .before .before .before .before .before .refused-before .result) (c .before .before .before .before .before .before .if1 .left) passed (c .before .before .before .before .before .after .result) (c .before .before .before .before .before .after .ensures) (c .before .refused-after .result) (c .if2 .left) (c .before .refused-after .ensures)
 
 pub decide-spec : {M : Type 1} → statement M
 decide-spec =

@@ -19,7 +19,7 @@ has-requires : tie.Need-has-requires
 has-requires c κs = search needs
 
 returns : tie.Need-returns
-returns c = Iff·trans (not-is (same-test (c .has .ensures) (c .before .before .administrators .ensures (c .before .before .before .before .before .before .pre) (c .before .before .before .before .before .before .args .c .actor)))) (λ n. record { adds = c .before .before .before .before .if1 .taken; outside = n }, λ o. o .outside)
+returns c = Iff·trans (not-is (same-test (c .has .ensures) (c .before .before .administrators .ensures (c .before .before .before .before .before .before .args .c .actor)))) (λ n. record { adds = c .before .before .before .before .if1 .taken; outside = n }, λ o. o .outside)
 
 returns-2 : tie.Need-returns-2
 returns-2 c = never (λ o. c .if1 .left (o .adds))

@@ -3,12 +3,9 @@ use mathlib.Core.Bool.{true}
 use mathlib.Core.Logic.{_↔_, Iff·trans}
 use borrow.Author.Tests.{not-true, not-false}
 use Rattle.hierarchy.proofs.FirstLaws.{hit, pass, none}
-use Rattle.hierarchy.proofs.Order.{order-loopless}
-use Rattle.hierarchy.specs.Tables.{tables}
-use Rattle.hierarchy.specs.Words.{Joined, Loops}
 use Rattle.board.specs.Boards.{boardOf}
 use Rattle.board.specs.Commands.{Outside}
-use Rattle.board.proofs.Looking.{holds, fails, managed-by, looped}
+use Rattle.board.proofs.Looking.{holds, fails, managed-by}
 use Rattle.board.proofs.Trying.{outside-row}
 use borrow.Author.Needs.{needs}
 use Rattle.board.proofs.commands.refused_after.Statement.{statement}
@@ -17,29 +14,26 @@ use Rattle.board.proofs.commands.refused_after.Tie as tie
 views-in-order-requires : tie.Need-views-in-order-requires
 views-in-order-requires c κs = search needs
 
-loopless : (c : tie.Else1) → Joined (tables (c .before .before .before .before .args .live) (c .before .before .before .before .args .i .now) (c .before .before .before .before .args .a .now)) → Loops (tables (c .before .before .before .before .args .live) (c .before .before .before .before .args .i .now) (c .before .before .before .before .args .a .now)) → ⊥
-loopless c joined = order-loopless joined .0 (holds (c .before .views-in-order .ensures .in-order) (not-false _ (c .if1 .left)))
-
 outside-at : (c : tie.After-outside) → (c .outside .result ≡ true) ↔ Outside (boardOf (c .before .before .before .before .before .before .before .args .live) (c .before .before .before .before .before .before .before .args .i .now) (c .before .before .before .before .before .before .before .args .a .now)) (c .before .before .before .before .before .before .before .args .c)
 outside-at c = Iff·trans (c .outside .ensures) (outside-row _ _ (c .before .before .before .before .views-in-order .ensures .views (not-false _ (c .before .before .before .if1 .left))))
 
 returns : tie.Need-returns
-returns c = λ shaped joined. hit _ _ _ (looped shaped joined (fails (c .before .views-in-order .ensures .in-order) (not-true _ (c .if1 .taken))))
+returns c = hit _ _ _ (fails (c .before .views-in-order .ensures .in-order) (not-true _ (c .if1 .taken)))
 
 outside-requires : tie.Need-outside-requires
 outside-requires c κs = search needs
 
 returns-2 : tie.Need-returns-2
-returns-2 c = λ shaped joined. pass _ _ _ _ (loopless (c .before .before .before .before) joined) (hit _ _ _ (holds (outside-at (c .before)) (c .if2 .taken)))
+returns-2 c = pass _ _ _ _ (λ n. n (holds (c .before .before .before .before .before .views-in-order .ensures .in-order) (not-false _ (c .before .before .before .before .if1 .left)))) (hit _ _ _ (holds (outside-at (c .before)) (c .if2 .taken)))
 
 managed-requires : tie.Need-managed-requires
 managed-requires c κs = search needs
 
 returns-3 : tie.Need-returns-3
-returns-3 c = λ shaped joined. pass _ _ _ _ (loopless (c .before .before .before .before .before .before .before .before) joined) (pass _ _ _ _ (fails (outside-at (c .before .before .before .before .before)) (c .before .before .before .before .if2 .left)) (pass _ _ _ _ (λ n. n (managed-by (c .before .before .before .before .before .before .before .before .before .views-in-order .ensures .views (not-false _ (c .before .before .before .before .before .before .before .before .if1 .left))) .0 (holds (c .before .managed .ensures) (c .if3 .taken)))) none))
+returns-3 c = pass _ _ _ _ (λ n. n (holds (c .before .before .before .before .before .before .before .before .before .views-in-order .ensures .in-order) (not-false _ (c .before .before .before .before .before .before .before .before .if1 .left)))) (pass _ _ _ _ (fails (outside-at (c .before .before .before .before .before)) (c .before .before .before .before .if2 .left)) (pass _ _ _ _ (λ n. n (managed-by (c .before .before .before .before .before .before .before .before .before .views-in-order .ensures .views (not-false _ (c .before .before .before .before .before .before .before .before .if1 .left))) .0 (holds (c .before .managed .ensures) (c .if3 .taken)))) none))
 
 returns-4 : tie.Need-returns-4
-returns-4 c = λ shaped joined. pass _ _ _ _ (loopless (c .before .before .before .before .before .before .before .before) joined) (pass _ _ _ _ (fails (outside-at (c .before .before .before .before .before)) (c .before .before .before .before .if2 .left)) (hit _ _ _ (λ m. fails (c .before .managed .ensures) (c .if3 .left) (managed-by (c .before .before .before .before .before .before .before .before .before .views-in-order .ensures .views (not-false _ (c .before .before .before .before .before .before .before .before .if1 .left))) .1 m))))
+returns-4 c = pass _ _ _ _ (λ n. n (holds (c .before .before .before .before .before .before .before .before .before .views-in-order .ensures .in-order) (not-false _ (c .before .before .before .before .before .before .before .before .if1 .left)))) (pass _ _ _ _ (fails (outside-at (c .before .before .before .before .before)) (c .before .before .before .before .if2 .left)) (hit _ _ _ (λ m. fails (c .before .managed .ensures) (c .if3 .left) (managed-by (c .before .before .before .before .before .before .before .before .before .views-in-order .ensures .views (not-false _ (c .before .before .before .before .before .before .before .before .if1 .left))) .1 m))))
 
 pub refused-after-spec : {M : Type 1} → statement M
 refused-after-spec =

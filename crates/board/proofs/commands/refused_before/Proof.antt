@@ -1,13 +1,12 @@
 use mathlib.Core.Path.{_≡_}
 use mathlib.Core.Bool.{true}
 use mathlib.Core.Logic.{_↔_, _≢_, Iff·trans}
-use Rattle.hierarchy.proofs.ViewLaws.{scope-by}
+use Rattle.hierarchy.specs.Views.{ScopeBy}
 use Rattle.board.specs.Boards.{boardOf}
 use Rattle.board.specs.Commands.{Malformed, Missing, edgeKind, Standing, NoEdge, InScope}
-use Rattle.board.specs.Looks.{Viewed}
 use Rattle.board.specs.declared.Board.{Board}
 use Rattle.board.proofs.Looking.{holds, fails}
-use Rattle.board.proofs.Trying.{missing-row, edge-row, standing-row, no-edge-row, scope-row, refused-2, refused-3, refused-4, refused-5, refused-6, refused-not}
+use Rattle.board.proofs.Trying.{missing-row, edge-row, standing-row, no-edge-row, in-scope-alike, refused-2, refused-3, refused-4, refused-5, refused-6, refused-not}
 use borrow.Author.Needs.{needs}
 use Rattle.board.proofs.commands.refused_before.Statement.{statement}
 use Rattle.board.proofs.commands.refused_before.Tie as tie
@@ -35,17 +34,17 @@ free-at c = fails (standing-row _ _ (edge-at (c .before .before)) (c .before .st
 there-at : (c : tie.Else4) → NoEdge (board (c .before .before .before .before .before .before .before .before .before)) (c .before .before .before .before .before .before .before .before .before .args .c) → ⊥
 there-at c = fails (no-edge-row _ _ (edge-at (c .before .before .before .before)) (c .before .no-edge .ensures)) (c .if4 .left)
 
-scope-at : (c : tie.After-within-scope) → Viewed (board (c .before .before .before .before .before .before .before .before .before .before .before .before)) (c .before .before .before .before .before .before .before .before .before .before .before .before .args .down .now) (c .before .before .before .before .before .before .before .before .before .before .before .before .args .up .now) → (c .within-scope .result ≡ true) ↔ InScope (board (c .before .before .before .before .before .before .before .before .before .before .before .before)) (c .before .before .before .before .before .before .before .before .before .before .before .before .args .c)
-scope-at c v = Iff·trans (c .within-scope .ensures) (scope-row (board (c .before .before .before .before .before .before .before .before .before .before .before .before)) (c .before .before .before .before .before .before .before .before .before .before .before .before .args .c) (λ x. Iff·trans (c .before .scope .ensures (v .seen .down-rows) x) (scope-by (v .seen .views))))
+scope-at : (c : tie.After-within-scope) → (c .within-scope .result ≡ true) ↔ InScope (ScopeBy (c .before .before .before .before .before .before .before .before .before .before .before .before .args .down .now) (c .before .before .before .before .before .before .before .before .before .before .before .before .args .up .now)) (c .before .before .before .before .before .before .before .before .before .before .before .before .args .c)
+scope-at c = Iff·trans (c .within-scope .ensures) (in-scope-alike (c .before .before .before .before .before .before .before .before .before .before .before .before .args .c) (c .before .scope .ensures))
 
 returns : tie.Need-returns
-returns c = λ v. refused-2 _ _ (v .sound) (holds (c .before .malformed .ensures) (c .if1 .taken))
+returns c = refused-2 _ _ _ (holds (c .before .malformed .ensures) (c .if1 .taken))
 
 missing-requires : tie.Need-missing-requires
 missing-requires c κs = formed-at c
 
 returns-2 : tie.Need-returns-2
-returns-2 c = λ v. refused-3 _ _ (v .sound) (formed-at (c .before .before)) (holds (missing-row (board (c .before .before .before .before)) _ (c .before .missing .ensures)) (c .if2 .taken))
+returns-2 c = refused-3 _ _ _ (formed-at (c .before .before)) (holds (missing-row (board (c .before .before .before .before)) _ (c .before .missing .ensures)) (c .if2 .taken))
 
 linked-requires : tie.Need-linked-requires
 linked-requires c κs = formed-at (c .before .before)
@@ -54,13 +53,13 @@ standing-requires : tie.Need-standing-requires
 standing-requires c κs = search needs
 
 returns-3 : tie.Need-returns-3
-returns-3 c = λ v. refused-4 _ _ (v .sound) (formed-at (c .before .before .before .before .before)) (present-at (c .before .before .before)) (holds (standing-row _ _ (edge-at (c .before .before)) (c .before .standing .ensures)) (c .if3 .taken))
+returns-3 c = refused-4 _ _ _ (formed-at (c .before .before .before .before .before)) (present-at (c .before .before .before)) (holds (standing-row _ _ (edge-at (c .before .before)) (c .before .standing .ensures)) (c .if3 .taken))
 
 no-edge-requires : tie.Need-no-edge-requires
 no-edge-requires c κs = search needs
 
 returns-4 : tie.Need-returns-4
-returns-4 c = λ v. refused-5 _ _ (v .sound) (formed-at (c .before .before .before .before .before .before .before)) (present-at (c .before .before .before .before .before)) (free-at (c .before .before)) (holds (no-edge-row _ _ (edge-at (c .before .before .before .before)) (c .before .no-edge .ensures)) (c .if4 .taken))
+returns-4 c = refused-5 _ _ _ (formed-at (c .before .before .before .before .before .before .before)) (present-at (c .before .before .before .before .before)) (free-at (c .before .before)) (holds (no-edge-row _ _ (edge-at (c .before .before .before .before)) (c .before .no-edge .ensures)) (c .if4 .taken))
 
 cast-scope : tie.Need-cast-scope
 cast-scope c = search needs
@@ -72,10 +71,10 @@ within-scope-requires : tie.Need-within-scope-requires
 within-scope-requires c κs = formed-at (c .before .before .before .before .before .before .before .before .before)
 
 returns-5 : tie.Need-returns-5
-returns-5 c = λ v. refused-not _ _ (v .sound) (formed-at (c .before .before .before .before .before .before .before .before .before .before .before)) (present-at (c .before .before .before .before .before .before .before .before .before)) (free-at (c .before .before .before .before .before .before)) (there-at (c .before .before .before .before)) (holds (scope-at (c .before) v) (c .if5 .taken))
+returns-5 c = refused-not _ _ _ (formed-at (c .before .before .before .before .before .before .before .before .before .before .before)) (present-at (c .before .before .before .before .before .before .before .before .before)) (free-at (c .before .before .before .before .before .before)) (there-at (c .before .before .before .before)) (holds (scope-at (c .before)) (c .if5 .taken))
 
 returns-6 : tie.Need-returns-6
-returns-6 c = λ v. refused-6 _ _ (v .sound) (formed-at (c .before .before .before .before .before .before .before .before .before .before .before)) (present-at (c .before .before .before .before .before .before .before .before .before)) (free-at (c .before .before .before .before .before .before)) (there-at (c .before .before .before .before)) (fails (scope-at (c .before) v) (c .if5 .left))
+returns-6 c = refused-6 _ _ _ (formed-at (c .before .before .before .before .before .before .before .before .before .before .before)) (present-at (c .before .before .before .before .before .before .before .before .before)) (free-at (c .before .before .before .before .before .before)) (there-at (c .before .before .before .before)) (fails (scope-at (c .before)) (c .if5 .left))
 
 pub refused-before-spec : {M : Type 1} → statement M
 refused-before-spec =

@@ -1,6 +1,7 @@
 use borrow.Author.Tests.{not-true, not-false}
 use Rattle.board.proofs.Looking.{fails, viewed}
 use Rattle.board.proofs.Trying.{decided-unsound}
+use Rattle.board.proofs.Viewing.{decided-viewed}
 use native.Mathlib.Omega.{arith}
 use mir.Syntax.{w64}
 use mir.Val.{Fits}
@@ -22,7 +23,7 @@ decide-requires : tie.Need-decide-requires
 decide-requires c κs = search needs
 
 returns-2 : tie.Need-returns-2
-returns-2 c = c .decide .ensures (viewed (c .before .before .before .before .before .before .before .look .ensures) (not-false _ (c .before .before .before .before .before .before .if1 .left)))
+returns-2 c = decided-viewed (viewed (c .before .before .before .before .before .before .before .look .ensures) (not-false _ (c .before .before .before .before .before .before .if1 .left))) (c .decide .ensures)
 
 pub step-spec : {M : Type 1} → statement M
 step-spec = tie.close (tie.spec look-requires returns decide-requires returns-2)

@@ -15,7 +15,7 @@ within-requires c κs = search needs
 
 returns : tie.Need-returns
 returns c = let s = c .before .before .before in
-    never (λ w. fails (c .before .within .ensures) (not-true _ (c .if1 .taken)) (λ x e. w .inside x (sym (c .before .before .in-scope .ensures x) ∙ e)))
+    never (λ w. fails (c .before .within .ensures) (not-true _ (c .if1 .taken)) (λ x e. w .scope x (sym (c .before .before .in-scope .ensures x) ∙ e)))
 
 in-strict-requires : tie.Need-in-strict-requires
 in-strict-requires c κs = search needs

@@ -1,7 +1,7 @@
 use borrow.Author.Tests.{not-true, not-false}
-use mathlib.Core.Path.{refl}
 use Rattle.board.proofs.Looking.{fails, viewed}
-use Rattle.board.proofs.Asking.{derives-unsound}
+use Rattle.board.proofs.Viewing.{derives-viewed}
+use Rattle.board.proofs.Asking.{answer-unsound}
 use native.Mathlib.Omega.{arith}
 use mir.Syntax.{w64}
 use mir.Val.{Fits}
@@ -17,13 +17,13 @@ look-requires c κs = (
 )
 
 returns : tie.Need-returns
-returns c = derives-unsound _ (fails (c .before .look .ensures .sound-is) (not-true _ (c .if1 .taken))) _ _
+returns c = answer-unsound _ _ _ (fails (c .before .look .ensures .sound-is) (not-true _ (c .if1 .taken)))
 
 derives-by-requires : tie.Need-derives-by-requires
 derives-by-requires c κs = search needs
 
 returns-2 : tie.Need-returns-2
-returns-2 c = c .derives-by .ensures _ _ refl (viewed (c .before .before .before .look .ensures) (not-false _ (c .before .before .if1 .left)))
+returns-2 c = derives-viewed (viewed (c .before .before .before .look .ensures) (not-false _ (c .before .before .if1 .left))) _ _ (c .derives-by .ensures)
 
 pub derives-spec : {M : Type 1} → statement M
 derives-spec = tie.close (tie.spec look-requires returns derives-by-requires returns-2)

@@ -1,4 +1,6 @@
-use Rattle.board.proofs.Asking.{asked, derives-refused, derives-done}
+use mathlib.Core.Logic.{Iff·rfl}
+use Rattle.board.proofs.Asking.{asked, answer-refused, answer-done}
+use Rattle.board.proofs.Trying.{same-test}
 use borrow.Author.Needs.{needs}
 use Rattle.board.proofs.questions.derives_by.Statement.{statement}
 use Rattle.board.proofs.questions.derives_by.Tie as tie
@@ -7,7 +9,7 @@ refused-requires : tie.Need-refused-requires
 refused-requires c κs = search needs
 
 returns : tie.Need-returns
-returns c = λ b up same v. derives-refused b _ same v _ _ _ (c .before .refused .ensures) (c .if1 .taken)
+returns c = answer-refused (c .before .refused .ensures) (c .if1 .taken)
 
 mul-has : tie.Need-mul-has
 mul-has c = search needs
@@ -19,7 +21,7 @@ has-requires : tie.Need-has-requires
 has-requires c κs = search needs
 
 returns-2 : tie.Need-returns-2
-returns-2 c = λ b up same v. derives-done b _ same v _ _ _ (c .before .before .before .refused .ensures) (c .before .before .if1 .left) (c .has .ensures)
+returns-2 c = answer-done (c .before .before .before .refused .ensures) (c .before .before .if1 .left) (same-test (c .has .ensures) Iff·rfl)
 
 pub derives-by-spec : {M : Type 1} → statement M
 derives-by-spec =

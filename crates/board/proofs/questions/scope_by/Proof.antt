@@ -1,4 +1,5 @@
-use Rattle.board.proofs.Asking.{scope-refused, scope-done}
+use Rattle.board.proofs.Asking.{answer-refused, answer-done}
+use Rattle.board.proofs.Trying.{same-test}
 use borrow.Author.Needs.{needs}
 use Rattle.board.proofs.questions.scope_by.Statement.{statement}
 use Rattle.board.proofs.questions.scope_by.Tie as tie
@@ -7,7 +8,7 @@ refused-requires : tie.Need-refused-requires
 refused-requires c κs = search needs
 
 returns : tie.Need-returns
-returns c = λ b same v. scope-refused b _ same v _ _ _ (c .before .refused .ensures) (c .if1 .taken)
+returns c = answer-refused (c .before .refused .ensures) (c .if1 .taken)
 
 scope-requires : tie.Need-scope-requires
 scope-requires c κs = search needs
@@ -19,7 +20,8 @@ size-requires : tie.Need-size-requires
 size-requires c κs = search needs
 
 returns-2 : tie.Need-returns-2
-returns-2 c = λ b same v. scope-done b _ same v _ _ _ (c .before .before .scope .result) (c .before .before .before .before .refused .ensures) (c .before .before .before .if1 .left) (c .before .before .scope .ensures) (c .before .has .ensures) (c .size .ensures)
+returns-2 c = answer-done (c .before .before .before .before .refused .ensures) (c .before .before .before .if1 .left)
+    (same-test (c .before .has .ensures) (c .before .before .scope .ensures _), (c .before .before .scope .result, c .before .before .scope .ensures, c .size .ensures))
 
 pub scope-by-spec : {M : Type 1} → statement M
 scope-by-spec =

@@ -1,4 +1,7 @@
-use Rattle.board.proofs.Asking.{steps-refused, steps-done, never-stopped}
+use mathlib.Core.Path.{refl, subst}
+use mathlib.Core.Logic.{inl, inr}
+use Rattle.hierarchy.specs.Views.{Climbing}
+use Rattle.board.proofs.Asking.{answer-refused, answer-done}
 use borrow.Author.Needs.{needs}
 use Rattle.board.proofs.questions.steps_by.Statement.{statement}
 use Rattle.board.proofs.questions.steps_by.Tie as tie
@@ -7,7 +10,7 @@ refused-requires : tie.Need-refused-requires
 refused-requires c κs = search needs
 
 returns : tie.Need-returns
-returns c = λ b same v. steps-refused b _ same v _ _ (c .before .refused .ensures) (c .if1 .taken)
+returns c = answer-refused (c .before .refused .ensures) (c .if1 .taken)
 
 steps-requires : tie.Need-steps-requires
 steps-requires c κs = search needs
@@ -19,10 +22,10 @@ enum-told : tie.Need-enum-told
 enum-told c = search needs
 
 returns-2 : tie.Need-returns-2
-returns-2 c = λ b same v. absurd (never-stopped b _ same v _ _ (c .before .before .before .before .refused .ensures) (c .before .before .before .if1 .left) (c .enum-told .given .1) (c .before .before .steps .ensures))
+returns-2 c = answer-done (c .before .before .before .before .refused .ensures) (c .before .before .before .if1 .left) (inr (subst (Climbing _ _ _) (c .enum-told .given .1) (c .before .before .steps .ensures), refl))
 
 returns-3 : tie.Need-returns-3
-returns-3 c = λ b same v. steps-done b _ same v _ _ (c .before .before .before .before .before .refused .ensures) (c .before .before .before .before .if1 .left) (c .before .n .given .1) (c .before .before .before .steps .ensures)
+returns-3 c = answer-done (c .before .before .before .before .before .refused .ensures) (c .before .before .before .before .if1 .left) (inl (subst (Climbing _ _ _) (c .before .n .given .1) (c .before .before .before .steps .ensures)))
 
 pub steps-by-spec : {M : Type 1} → statement M
 steps-by-spec =

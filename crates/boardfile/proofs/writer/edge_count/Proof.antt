@@ -10,7 +10,7 @@ edges-below-requires c κs = search needs
 
 returns : tie.Need-returns
 unfolding kindAt kind
-returns c = c .edges-below .ensures .0 (omega arith)
+returns c = c .edges-below .ensures
 
 pub edge-count-spec : {M : Type 1} → statement M
 edge-count-spec = tie.close (tie.spec edges-below-requires returns)

@@ -1,5 +1,5 @@
 use borrow.Author.Needs.{needs}
-use mathlib.Core.Path.{refl, sym, _∙_}
+use mathlib.Core.Path.{sym, _∙_}
 use Prim.Native.Nat.{_≤_, _-_}
 use native.Mathlib.Omega.{arith}
 use Rattle.hierarchy.specs.Tables.{tables}
@@ -12,9 +12,6 @@ Inv-loop i a senior n₀ x₀ n x = (x ≤ senior) × Counted (tables 0 i a) n x
 
 abbrev μ-loop : tie.MeasureT-loop
 μ-loop i a senior n₀ x₀ n x = senior - x
-
-returns : tie.Need-returns Inv-loop μ-loop
-returns c = (λ l. omega arith, λ _. refl)
 
 loop-holds : tie.Need-loop-holds Inv-loop μ-loop
 loop-holds c = (omega arith, count-start _)
@@ -56,8 +53,8 @@ loop-again c = (
       (row-count _ _ (c .before .union .result) (omega (arith, c .before .union .ok)) (c .before .union .ensures) ∙ sym (c .size .ensures)),
 )
 
-returns-2 : tie.Need-returns-2 Inv-loop μ-loop
-returns-2 c = (λ _. count-end (c .before .before .before .args .senior) (c .before .loop .inv .1) (omega arith), λ g. omega arith)
+returns : tie.Need-returns Inv-loop μ-loop
+returns c = count-end (c .before .before .args .senior) (c .before .loop .inv .1) (omega arith)
 
 pub edges-below-spec : {M : Type 1} → statement M
 edges-below-spec =
@@ -65,7 +62,6 @@ edges-below-spec =
     (tie.spec
     Inv-loop
     μ-loop
-    returns
     loop-holds
     mul-union
     element-copy-out-union
@@ -78,4 +74,4 @@ edges-below-spec =
     add-x
     loop-less
     loop-again
-    returns-2)
+    returns)

@@ -11,8 +11,11 @@ administrators-of-requires c κs = search needs
 returns : tie.Need-returns
 returns c = search needs
 
+whole-requires : tie.Need-whole-requires
+whole-requires c κs = search needs
+
 returns-2 : tie.Need-returns-2
-returns-2 c = λ rows a. (λ e. absurd (false-no (bit-zero a) e), λ d. absurd (past-row (c .before .args .up .now) (c .before .args .r) a rows (c .if1 .left) (d .scope .derived)))
+returns-2 c = λ a. (λ e. absurd (false-no (bit-zero a) e), λ d. absurd (past-row (c .before .before .before .args .up .now) (c .before .before .before .args .r) a (c .whole .ensures) (c .before .before .if1 .left) (d .scope .derived)))
 
 pub administrators-spec : {M : Type 1} → statement M
-administrators-spec = tie.close (tie.spec administrators-of-requires returns returns-2)
+administrators-spec = tie.close (tie.spec administrators-of-requires returns whole-requires returns-2)

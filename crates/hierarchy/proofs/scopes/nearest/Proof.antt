@@ -3,7 +3,7 @@ use mathlib.Core.Logic.{⊎-elim, _≢_}
 use Prim.Native.Nat.{ℕ}
 use native.Mathlib.Omega.{arith}
 use lib.Count.{ones}
-use Rattle.sets.specs.Sets.{_∈_}
+use Rattle.sets.specs.Sets.{_isIn_}
 use Rattle.sets.proofs.Members.{Taken, taken-by, picked, nobody, taken-less}
 use Rattle.hierarchy.specs.Tables.{row}
 use Rattle.hierarchy.proofs.Sift.{Sifted, sift-start, sift-in, sift-out, sift-end}
@@ -13,7 +13,7 @@ use Rattle.hierarchy.proofs.scopes.nearest.Statement.{statement}
 use Rattle.hierarchy.proofs.scopes.nearest.Tie as tie
 
 abbrev Inv-loop : tie.InvT-loop
-Inv-loop up administrators found₀ rest₀ found rest = Sifted (λ m. (a : ℕ) → a ∈ administrators → a ≢ m → a ∈ row up m) administrators found rest
+Inv-loop up administrators found₀ rest₀ found rest = Sifted (λ m. (a : ℕ) → a isIn administrators → a ≢ m → a isIn row up m) administrators found rest
 
 abbrev μ-loop : tie.MeasureT-loop
 μ-loop up administrators found₀ rest₀ found rest = ones rest

@@ -11,8 +11,11 @@ scope-of-requires c κs = search needs
 returns : tie.Need-returns
 returns c = search needs
 
+whole-requires : tie.Need-whole-requires
+whole-requires c κs = search needs
+
 returns-2 : tie.Need-returns-2
-returns-2 c = λ rows r. (λ e. absurd (false-no (bit-zero r) e), λ d. absurd (past-row (c .before .args .down .now) (c .before .args .a) r rows (c .if1 .left) (d .derives)))
+returns-2 c = λ r. (λ e. absurd (false-no (bit-zero r) e), λ d. absurd (past-row (c .before .before .before .args .down .now) (c .before .before .before .args .a) r (c .whole .ensures) (c .before .before .if1 .left) (d .derives)))
 
 pub scope-spec : {M : Type 1} → statement M
-scope-spec = tie.close (tie.spec scope-of-requires returns returns-2)
+scope-spec = tie.close (tie.spec scope-of-requires returns whole-requires returns-2)

@@ -1,0 +1,12 @@
+use mathlib.Core.Path.{refl}
+use Rattle.boardfile.proofs.questions.check.Statement.{statement}
+use Rattle.boardfile.proofs.questions.check.Tie as tie
+
+open-requires : tie.Need-open-requires
+open-requires c κs = (refl, refl)
+
+returns : tie.Need-returns
+returns c = c .«open» .ensures .numbered
+
+pub check-spec : {M : Type 1} → statement M
+check-spec = tie.close (tie.spec open-requires returns)

@@ -1,0 +1,94 @@
+use mathlib.Core.Path.{_≡_, subst}
+use mathlib.Core.Logic.{⊎-elim}
+use Prim.Native.Nat.{ℕ, _+_, _-_, _*_, _≤_, _<_}
+use native.Mathlib.Omega.{arith}
+use lib.ListN.{length}
+use borrow.Author.Tests.{ltb-true, ltb-false}
+use Rattle.hierarchy.specs.Tables.{kind}
+use Rattle.board.specs.Boards.{tablesOf, boardOf}
+use Rattle.board.specs.declared.Board.{Board}
+use Rattle.boardfile.specs.Files.{from, edge?, kindAt, fileOf}
+use Rattle.boardfile.specs.Answers.{NoRoom.past-end, NoRoom.too-few}
+use Rattle.boardfile.proofs.Filed.{sizes-few, file-long, file-room, no-room, filed}
+use borrow.Author.Needs.{needs}
+use Rattle.boardfile.proofs.writer.put.Statement.{statement}
+use Rattle.boardfile.proofs.writer.put.Tie as tie
+
+size-requires : tie.Need-size-requires
+size-requires c κs = search needs
+
+cast-roles : tie.Need-cast-roles
+cast-roles c = search needs
+
+edges-below-requires : tie.Need-edges-below-requires
+edges-below-requires c κs = search needs
+
+abbrev board : tie.Start → Board
+board s = boardOf (s .args .live) (s .args .i .now) (s .args .a .now)
+
+-- kinds are a matter of the tables, whoever lives
+edges-are : (c : tie.After-edges-below) → c .edges-below .result ≡ length (from 4096 0 (edge? (kindAt (tablesOf (board (c .before .before .before))))))
+unfolding kindAt kind
+edges-are c = c .edges-below .ensures
+
+few : (c : tie.After-edges-below) → (c .before .size .result ≤ 64) × (c .edges-below .result ≤ 4096)
+few c = sizes-few (board (c .before .before .before)) (c .before .before .before .fits .live .fits) (c .before .size .ensures) (edges-are c)
+
+long : (c : tie.After-edges-below) → c .before .size .result + 3 * c .edges-below .result + 6 ≡ length (fileOf (board (c .before .before .before)))
+long c = file-long (board (c .before .before .before)) (c .before .before .before .fits .live .fits) (c .before .size .ensures) (edges-are c)
+
+mul-edges : tie.Need-mul-edges
+mul-edges c = let h = few c in omega arith
+
+add-len : tie.Need-add-len
+add-len c = let h = few c in omega arith
+
+add-len-2 : tie.Need-add-len-2
+add-len-2 c = let h = few c in omega arith
+
+sub-if2 : tie.Need-sub-if2
+sub-if2 c = search needs
+
+returns : tie.Need-returns
+returns c = no-room (⊎-elim
+    (λ w. past-end (w .taken))
+    (λ w. too-few (subst (λ (n : ℕ). length (c .before .before .before .before .args .out .now) - c .before .before .before .before .args .at < n) (long (c .before)) (ltb-true _ _ (w .1 .taken))))
+    (c .if1 .came))
+
+sub-put-file : tie.Need-sub-put-file
+sub-put-file c = search needs
+
+part-put-file-start : tie.Need-part-put-file-start
+part-put-file-start c = search needs
+
+part-put-file-end : tie.Need-part-put-file-end
+part-put-file-end c = search needs
+
+put-file-requires : tie.Need-put-file-requires
+put-file-requires c κs = file-room (board (c .before .before .before .before .before .before)) (c .before .before .before .before .before .before .fits .live .fits) (c .before .before .before .before .size .ensures) (edges-are (c .before .before .before)) (c .before .before .before .before .before .before .args .out .now) (c .before .before .before .before .before .before .args .at)
+    (c .before .before .if1 .left) (ltb-false _ _ (c .before .if2 .left))
+
+same-length : tie.Need-same-length
+same-length c = search needs
+
+returns-2 : tie.Need-returns-2
+returns-2 c = filed _ (long (c .before .before .before .before .before .before)) (c .before .before .before .before .before .if1 .left) (ltb-false _ _ (c .before .before .before .before .if2 .left)) (c .before .before .put-file .last .1 .1 .1 .1 .1 .0) (c .before .before .put-file .ensures)
+
+pub put-spec : {M : Type 1} → statement M
+put-spec =
+    tie.close
+    (tie.spec
+    size-requires
+    cast-roles
+    edges-below-requires
+    mul-edges
+    add-len
+    add-len-2
+    sub-if2
+    returns
+    sub-put-file
+    part-put-file-start
+    part-put-file-end
+    put-file-requires
+    same-length
+    returns-2)

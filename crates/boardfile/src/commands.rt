@@ -1,0 +1,59 @@
+// A command on the board in a file: read, decided and written in one call.
+ghost use Rattle.boardfile.specs.Answers.{CommandAnswer};
+use crate::opening::open;
+use crate::writer::put;
+use board::Command;
+use board::commands::decide;
+
+// Where a number arose: in the command (and every 0), in the file handed in, in writing the new one.
+pub enum Place {
+    Asked,
+    File,
+    Writing,
+}
+
+pub struct Commanded {
+    pub place: Place,
+    pub number: u8,
+    pub len: usize,
+}
+
+// Done leaves the file of the board afterwards at the start of `out`, with its length; a refusal leaves `out` as it was.
+pub fn command(file: &[u8], c: Command, out: &mut [u8]) -> Commanded
+    ensures { λ r. ⌜ CommandAnswer (now (file .entry)) c (now (out .entry)) (now (out .exit)) (r .place) (r .number) (r .len) ⌝ }
+{
+    let mut i = [0u64; 64];
+    let mut a = [0u64; 64];
+    let mut down = [0u64; 64];
+    let mut up = [0u64; 64];
+    let f = open(file, &mut i, &mut a, &mut down, &mut up);
+    if f.number != 0 {
+        return Commanded {
+            place: Place::File,
+            number: f.number,
+            len: 0,
+        };
+    }
+    let o = decide(f.live, &i, &a, c, &down, &up);
+    if o.number != 0 {
+        return Commanded {
+            place: Place::Asked,
+            number: o.number,
+            len: 0,
+        };
+    }
+    let next = o.board;
+    let w = put(next.live, &next.i, &next.a, out, 0);
+    if w.number != 0 {
+        return Commanded {
+            place: Place::Writing,
+            number: w.number,
+            len: 0,
+        };
+    }
+    Commanded {
+        place: Place::Asked,
+        number: 0,
+        len: w.len,
+    }
+}

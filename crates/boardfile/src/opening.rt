@@ -1,0 +1,56 @@
+// A file opened: its board in parts, with the views.
+ghost use mathlib.Core.Path.{_≡_};
+ghost use lib.ListN.{replicate};
+ghost use Rattle.boardfile.specs.Parts.{Opening};
+use crate::frame::Framed;
+use crate::frame::frame;
+use crate::reader::Roles;
+use crate::reader::edges;
+use crate::reader::listed;
+use hierarchy::scopes::managed;
+use hierarchy::views::views_in_order;
+
+// The number, and the live roles of the board; its tables and views go to what is lent.
+pub(crate) struct Opened {
+    pub number: u8,
+    pub live: u64,
+}
+
+fn refused(number: u8) -> Opened
+    ensures { λ r. ⌜ r .number ≡ number ⌝ }
+{
+    Opened { number, live: 0 }
+}
+
+// Reads the parts one after the other, into two blank tables, and weighs the board. A refusal leaves anything in what is lent.
+pub(crate) fn open(
+    file: &[u8],
+    i: &mut [u64; 64],
+    a: &mut [u64; 64],
+    down: &mut [u64; 64],
+    up: &mut [u64; 64],
+) -> Opened
+    requires { ⌜ (now i ≡ replicate 64 0) × (now a ≡ replicate 64 0) ⌝ }
+    ensures { λ r. ⌜ Opening (now (file .entry)) (r .number) (r .live) (now (i .exit)) (now (a .exit)) (now (down .exit)) (now (up .exit)) ⌝ }
+{
+    let Framed::Good {
+        roles,
+        edges: records,
+    } = frame(file)
+    else {
+        return refused(10);
+    };
+    let Roles::Live(live) = listed(file, roles) else {
+        return refused(11);
+    };
+    if !edges(file, roles, records, live, i, a) {
+        return refused(11);
+    }
+    if !views_in_order(live, i, a, down, up) {
+        return refused(7);
+    }
+    if !managed(live, down, up) {
+        return refused(9);
+    }
+    Opened { number: 0, live }
+}

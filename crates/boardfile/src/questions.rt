@@ -1,0 +1,97 @@
+// Questions about the board in a file: the file's refusals first, then those of the question, with no, none or zero.
+ghost use Rattle.hierarchy.specs.First.{First};
+ghost use Rattle.boardfile.specs.Answers.{refusals, DerivesOnFile, ScopeOnFile, ManagerOnFile, StepsOnFile};
+use crate::opening::open;
+use board::questions::Derived;
+use board::questions::Managed;
+use board::questions::Manager;
+use board::questions::Scoped;
+use board::questions::Stepped;
+use board::questions::derives_by;
+use board::questions::line_manager_by;
+use board::questions::scope_by;
+use board::questions::steps_by;
+
+// Whether the file can be read.
+pub fn check(file: &[u8]) -> u8
+    ensures { λ r. ⌜ First (refusals (now (file .entry))) r ⌝ }
+{
+    let mut i = [0u64; 64];
+    let mut a = [0u64; 64];
+    let mut down = [0u64; 64];
+    let mut up = [0u64; 64];
+    open(file, &mut i, &mut a, &mut down, &mut up).number
+}
+
+// Does x derive y.
+pub fn derives(file: &[u8], x: u32, y: u32) -> Derived
+    ensures { λ r. ⌜ DerivesOnFile (now (file .entry)) x y (r .number) (r .yes) ⌝ }
+{
+    let mut i = [0u64; 64];
+    let mut a = [0u64; 64];
+    let mut down = [0u64; 64];
+    let mut up = [0u64; 64];
+    let f = open(file, &mut i, &mut a, &mut down, &mut up);
+    if f.number != 0 {
+        return Derived {
+            number: f.number,
+            yes: false,
+        };
+    }
+    derives_by(f.live, &down, x, y)
+}
+
+// Is r in the scope of a, and how many are.
+pub fn scope(file: &[u8], a: u32, r: u32) -> Scoped
+    ensures { λ y. ⌜ ScopeOnFile (now (file .entry)) a r (y .number) (y .yes) (y .count) ⌝ }
+{
+    let mut by_i = [0u64; 64];
+    let mut by_a = [0u64; 64];
+    let mut down = [0u64; 64];
+    let mut up = [0u64; 64];
+    let f = open(file, &mut by_i, &mut by_a, &mut down, &mut up);
+    if f.number != 0 {
+        return Scoped {
+            number: f.number,
+            yes: false,
+            count: 0,
+        };
+    }
+    scope_by(f.live, &down, &up, a, r)
+}
+
+// The line manager of r.
+pub fn line_manager(file: &[u8], r: u32) -> Managed
+    ensures { λ y. ⌜ ManagerOnFile (now (file .entry)) r (y .number) (y .manager) ⌝ }
+{
+    let mut i = [0u64; 64];
+    let mut a = [0u64; 64];
+    let mut down = [0u64; 64];
+    let mut up = [0u64; 64];
+    let f = open(file, &mut i, &mut a, &mut down, &mut up);
+    if f.number != 0 {
+        return Managed {
+            number: f.number,
+            manager: Manager::Nobody,
+        };
+    }
+    line_manager_by(f.live, &down, &up, r)
+}
+
+// The steps from r to role 0 by line managers.
+pub fn steps(file: &[u8], r: u32) -> Stepped
+    ensures { λ y. ⌜ StepsOnFile (now (file .entry)) r (y .number) (y .steps) ⌝ }
+{
+    let mut i = [0u64; 64];
+    let mut a = [0u64; 64];
+    let mut down = [0u64; 64];
+    let mut up = [0u64; 64];
+    let f = open(file, &mut i, &mut a, &mut down, &mut up);
+    if f.number != 0 {
+        return Stepped {
+            number: f.number,
+            steps: 0,
+        };
+    }
+    steps_by(f.live, &down, &up, r)
+}
