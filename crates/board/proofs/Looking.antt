@@ -6,10 +6,10 @@ use mathlib.Core.List.{List}
 use Prim.Native.Nat.{ℕ}
 use Rattle.hierarchy.specs.Tables.{Tables, Live, Shaped}
 use Rattle.hierarchy.specs.Words.{Joined, Loops, Managed, Sound}
-use Rattle.hierarchy.specs.Views.{AreViews, InOrderViews, ManagedBy}
+use Rattle.hierarchy.specs.Views.{AreViews, SettledViews, ManagedBy}
 use Rattle.hierarchy.proofs.Decide.{loops-dec}
 use Rattle.hierarchy.proofs.Order.{order-loopless}
-use Rattle.hierarchy.proofs.ViewLaws.{admin-by}
+use Rattle.hierarchy.proofs.ViewLaws.{admin-by, in-order-is, settled-views}
 use Rattle.board.specs.Boards.{tablesOf}
 use Rattle.board.specs.Looks.{Seen, Viewed, Disordered}
 use Rattle.board.specs.declared.Board.{Board}
@@ -36,26 +36,32 @@ managed-by v = (
 
 -- where entries join live roles, what is out of order has a loop
 pub disordered-loops : {t : Tables} → Shaped t → Joined t → Disordered t ↔ Loops t
-disordered-loops shaped joined = (λ n. stable (loops-dec shaped) (λ m. n (order-loopless joined .1 m)), λ l o. order-loopless joined .0 o l)
+disordered-loops shaped joined =
+    let order = order-loopless (shaped .live-fits) joined in
+    (λ n. stable (loops-dec shaped) (λ m. n (order .1 m)), λ l o. order .0 o l)
 
 -- ---- a look
 
 -- where all else is well, order and administrators are left
-pub look-is : {t : Tables} {old-down old-up down up : List ℕ} {order m : Bool} → Shaped t → Live t 0 → Joined t → InOrderViews t old-down old-up order down up
-    → order ≡ true → (m ≡ true) ↔ ManagedBy (t .live) down up → Seen t m down up
+pub look-is : {t : Tables} {down up : List ℕ} {settled : ℕ} {m : Bool} → Shaped t → Live t 0 → Joined t → SettledViews t settled down up
+    → settled ≡ t .live → (m ≡ true) ↔ ManagedBy (t .live) down up → Seen t m down up
 look-is shaped root joined w e managed = record {
   sound-is = (
     λ h. record {
       shaped = shaped;
       joined = joined;
-      loopless = order-loopless joined .0 (w .in-order .0 e);
+      loopless = order-loopless (shaped .live-fits) joined .0 (in-order-is w .0 e);
       root = root;
-      managed = managed-by (w .views e) .0 (managed .0 h);
+      managed = managed-by (settled-views w e) .0 (managed .0 h);
     },
-    λ s. managed .1 (managed-by (w .views e) .1 (s .managed)),
+    λ s. managed .1 (managed-by (settled-views w e) .1 (s .managed)),
   );
-  seen = λ _. w .views e;
+  seen = λ _. settled-views w e;
 }
+
+-- and a board that isn't in order isn't sound
+pub no-order : {t : Tables} {down up : List ℕ} {settled : ℕ} → SettledViews t settled down up → (settled ≡ t .live → ⊥) → Sound t → ⊥
+no-order w n s = n (in-order-is w .1 (order-loopless (s .shaped .live-fits) (s .joined) .1 (s .loopless)))
 
 -- a look that finds nothing sound
 pub unseen : {t : Tables} {down up : List ℕ} → (Sound t → ⊥) → Seen t false down up

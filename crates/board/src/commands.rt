@@ -20,7 +20,7 @@ use crate::looks::look;
 use hierarchy::scopes::administrators;
 use hierarchy::scopes::managed;
 use hierarchy::scopes::scope;
-use hierarchy::views::views_in_order;
+use hierarchy::views::settled_views;
 use sets::has;
 use sets::minus;
 use sets::single;
@@ -193,7 +193,7 @@ fn refused_after<'t>(live: u64, i: &'t [u64; 64], a: &'t [u64; 64], c: Command) 
 {
     let mut down = [0u64; 64];
     let mut up = [0u64; 64];
-    if !views_in_order(live, i, a, &mut down, &mut up) {
+    if settled_views(live, i, a, &mut down, &mut up) != live {
         return 7;
     }
     if outside(&down, &up, c) {

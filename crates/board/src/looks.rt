@@ -3,7 +3,7 @@ ghost use Rattle.hierarchy.specs.Tables.{tables, IsTable};
 ghost use Rattle.board.specs.Looks.{Seen};
 use hierarchy::entries::joined;
 use hierarchy::scopes::managed;
-use hierarchy::views::views_in_order;
+use hierarchy::views::settled_views;
 use sets::has;
 
 // Whether the board of these tables is sound; if so, its views are in `down` and `up`.
@@ -23,7 +23,7 @@ pub(crate) fn look<'t>(
     if !joined(live, i, a) {
         return false;
     }
-    if !views_in_order(live, i, a, down, up) {
+    if settled_views(live, i, a, down, up) != live {
         return false;
     }
     managed(live, down, up)

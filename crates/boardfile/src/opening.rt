@@ -1,6 +1,5 @@
 // A file opened: its board in parts, with the views.
 ghost use mathlib.Core.Path.{_≡_};
-ghost use lib.ListN.{replicate};
 ghost use Rattle.boardfile.specs.Parts.{Opening};
 use crate::frame::Framed;
 use crate::frame::frame;
@@ -8,7 +7,7 @@ use crate::reader::Roles;
 use crate::reader::edges;
 use crate::reader::listed;
 use hierarchy::scopes::managed;
-use hierarchy::views::views_in_order;
+use hierarchy::views::settled_views;
 
 // The number, and the live roles of the board; its tables and views go to what is lent.
 pub(crate) struct Opened {
@@ -22,7 +21,7 @@ fn refused(number: u8) -> Opened
     Opened { number, live: 0 }
 }
 
-// Reads the parts one after the other, into two blank tables, and weighs the board. A refusal leaves anything in what is lent.
+// Reads the parts one after the other, and weighs the board. A refusal leaves anything in what is lent.
 pub(crate) fn open(
     file: &[u8],
     i: &mut [u64; 64],
@@ -30,9 +29,10 @@ pub(crate) fn open(
     down: &mut [u64; 64],
     up: &mut [u64; 64],
 ) -> Opened
-    requires { ⌜ (now i ≡ replicate 64 0) × (now a ≡ replicate 64 0) ⌝ }
     ensures { λ r. ⌜ Opening (now (file .entry)) (r .number) (r .live) (now (i .exit)) (now (a .exit)) (now (down .exit)) (now (up .exit)) ⌝ }
 {
+    *i = [0; 64];
+    *a = [0; 64];
     let Framed::Good {
         roles,
         edges: records,
@@ -46,7 +46,7 @@ pub(crate) fn open(
     if !edges(file, roles, records, live, i, a) {
         return refused(11);
     }
-    if !views_in_order(live, i, a, down, up) {
+    if settled_views(live, i, a, down, up) != live {
         return refused(7);
     }
     if !managed(live, down, up) {

@@ -11,7 +11,7 @@ use board::effects::after;
 use board::questions;
 use board::questions::Manager;
 use hierarchy::scopes::managed;
-use hierarchy::views::views_in_order;
+use hierarchy::views::settled_views;
 use sets::has;
 
 fn text(s: &[u8]) {
@@ -219,7 +219,7 @@ pub(crate) fn trouble(name: &[u8], b: Board, c: Command) {
     let next = after(b, c);
     let mut down = [0u64; 64];
     let mut up = [0u64; 64];
-    if !views_in_order(next.live, &next.i, &next.a, &mut down, &mut up) {
+    if settled_views(next.live, &next.i, &next.a, &mut down, &mut up) != next.live {
         text(b"a role that reaches itself\n");
         return;
     }

@@ -1,18 +1,59 @@
 -- Order among the live roles, and loops. Assumes nothing.
-use mathlib.Core.Logic.{_↔_, _≢_}
-use Prim.Native.Nat.{ℕ}
-use Rattle.hierarchy.specs.Tables.{Tables, kind}
-use Rattle.hierarchy.specs.Words.{Way, Way.edge, Way.then, Loops, Joined}
-use Rattle.hierarchy.specs.Views.{InOrder}
+use mathlib.Core.Path.{_≡_, sym, ap, _∙_, subst}
+use mathlib.Core.Bool.{Bool, false, not, _&&_, and-true}
+use mathlib.Core.Logic.{_⊎_, inl, inr, ⊎-elim, _↔_, _≢_}
+use Prim.Native.Nat.{ℕ, zero, suc, _^_, _≤_, _<_}
+use native.Mathlib.Omega.{arith}
+use lib.Count.{ones, ones-le}
+use Rattle.sets.specs.Sets.{bit, same?}
+use Rattle.sets.proofs.Bools.{true-or-false, false-no}
+use Rattle.sets.proofs.Laws.{bit-lt, ones-less, setOf-fits, same-eq, but, bit-but}
+use Rattle.hierarchy.specs.Tables.{Tables, Live, kind}
+use Rattle.hierarchy.specs.Words.{Way, Way.edge, Way.then, Reaches, Loops, Joined}
+use Rattle.hierarchy.specs.Views.{Settles, Settles.settle, InOrder}
+use Rattle.hierarchy.proofs.Admin.{reaches-trans}
 
 -- a path starts with an edge
 starts : {t : Tables} {x z k : ℕ} → Way t x z k → (y : ℕ) × (kind t x y ≢ 0)
 starts (edge {y = y} h) = (y, h)
 starts (then {y = y} h w) = (y, h)
 
+pub settles-live : {t : Tables} {x : ℕ} → Settles t x → Live t x
+settles-live (settle l f) = l
+
+-- what settles does not reach itself: its juniors would
+settles-loopless : {t : Tables} {x : ℕ} → Settles t x → Reaches t x x → ⊥
+settles-loopless {x = x} (settle l f) (k, edge h) = settles-loopless (f x h) (k, edge h)
+settles-loopless (settle l f) (_, then {y = y} h w) = settles-loopless (f y h) (reaches-trans (_, w) (_, edge h))
+
+but-cases : (s x v : ℕ) → s < 2 ^ 64 → bit (but s x) v ≡ false → (bit s v ≡ false) ⊎ (v ≡ x)
+but-cases s x v f e = ⊎-elim (λ q. inr (same-eq x v q))
+    (λ q. inl (sym (bit-but s x f v ∙ ap (λ (p : Bool). bit s v && not p) q ∙ and-true (bit s v)) ∙ e)) (true-or-false (same? x v))
+
+-- v is x or reaches it, and x has the junior y
+over : {t : Tables} {v x y : ℕ} → kind t x y ≢ 0 → (v ≡ x) ⊎ Reaches t v x → Reaches t v y
+over {t} {y = y} h (inl q) = subst (λ (z : ℕ). Reaches t z y) (sym q) (_, edge h)
+over h (inr w) = reaches-trans w (_, edge h)
+
+module _ {t : Tables} (joined : Joined t) (loopless : Loops t → ⊥) where
+  -- Going down from x, s holds the live roles not yet met; whoever was met is x or reaches it, so a junior that was met would close a loop.
+  goes-down : (k s x : ℕ) → s < 2 ^ 64 → ones s ≤ k → Live t x → ((v : ℕ) → Live t v → bit s v ≡ false → (v ≡ x) ⊎ Reaches t v x) → Settles t x
+  goes-down zero s x f o l met = settle l (λ y h. ⊎-elim
+      (λ e. absurd (omega (arith, ones-less s (but s y) y (bit-lt 64 f e) e (bit-but s y f))))
+      (λ e. absurd (loopless (y, over h (met y (joined x y h .1) e))))
+      (true-or-false (bit s y)))
+  goes-down (suc k) s x f o l met = settle l (λ y h. ⊎-elim
+      (λ e. goes-down k (but s y) y (setOf-fits _) (omega (arith, ones-less s (but s y) y (bit-lt 64 f e) e (bit-but s y f))) (joined x y h .1)
+      (λ v m d. ⊎-elim (λ n. inr (over h (met v m n))) (λ q. inl q) (but-cases s y v f d)))
+      (λ e. absurd (loopless (y, over h (met y (joined x y h .1) e))))
+      (true-or-false (bit s y)))
+
+  all-settle : t .live < 2 ^ 64 → InOrder t
+  all-settle f x l = goes-down 64 (t .live) x f (ones-le 64 (t .live) f) l (λ v m n. absurd (false-no n m))
+
 -- Where entries join live roles, order is that there is no loop.
-pub order-loopless : {t : Tables} → Joined t → InOrder t ↔ (Loops t → ⊥)
-order-loopless joined = (
-  λ o l. let s = starts (l .1 .1) in o .loopless (l .0) (joined (l .0) (s .0) (s .1) .0) (l .1),
-  λ n. record { juniors = λ x y _ h. joined x y h .1; loopless = λ x _ w. n (x, w) },
+pub order-loopless : {t : Tables} → t .live < 2 ^ 64 → Joined t → InOrder t ↔ (Loops t → ⊥)
+order-loopless f joined = (
+  λ o l. let s = starts (l .1 .1) in settles-loopless (o (l .0) (joined (l .0) (s .0) (s .1) .0)) (l .1),
+  λ n. all-settle joined n f,
 )

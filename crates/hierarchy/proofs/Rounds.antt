@@ -1,4 +1,4 @@
--- Where every role of a set has a junior in the set, one of them reaches itself; and entries that join live roles. Assumes nothing.
+-- Entries that join live roles, row by row. Assumes nothing.
 use mathlib.Core.Path.{_≡_, refl, sym, ap, _∙_, subst}
 use mathlib.Core.Bool.{Bool, true, false, not, _&&_, _||_, and-true}
 use mathlib.Core.Logic.{_⊎_, inl, inr, ⊎-elim, _↔_, _≢_}
@@ -15,28 +15,6 @@ use Rattle.hierarchy.specs.Words.{Way.edge, Reaches, Joined}
 use Rattle.hierarchy.proofs.Derive.{edge-entry}
 use Rattle.hierarchy.proofs.Admin.{reaches-trans}
 use Rattle.hierarchy.proofs.Managing.{past-row, a-member, no-iff}
-
-but-cases : (s x v : ℕ) → s < 2 ^ 64 → bit (but s x) v ≡ false → (bit s v ≡ false) ⊎ (v ≡ x)
-but-cases s x v f e = ⊎-elim (λ q. inr (same-eq x v q))
-    (λ q. inl (sym (bit-but s x f v ∙ ap (λ (p : Bool). bit s v && not p) q ∙ and-true (bit s v)) ∙ e)) (true-or-false (same? x v))
-
--- every role of left has a junior in left
-module _ {t : Tables} (left : ℕ) (down : (x : ℕ) → x isIn left → (y : ℕ) × (y isIn left) × (kind t x y ≢ 0)) where
-  -- Going down from x, s holds the roles not yet met, and all that were reach x: after as many steps as s has roles, one is met again.
-  comes-round : (k s x : ℕ) → s < 2 ^ 64 → ones s ≤ k → x isIn left → ((v : ℕ) → v isIn left → bit s v ≡ false → Reaches t v x) → (y : ℕ) × (y isIn left) × Reaches t y y
-  comes-round zero s x f l m met =
-      ⊎-elim (λ e. absurd (omega (arith, ones-less s (but s x) x (bit-lt 64 f e) e (bit-but s x f)))) (λ e. (x, m, met x m e)) (true-or-false (bit s x))
-  comes-round (suc k) s x f l m met = ⊎-elim
-      (λ e.
-      let p = down x m in
-      comes-round k (but s x) (p .0) (setOf-fits _) (omega (arith, ones-less s (but s x) x (bit-lt 64 f e) e (bit-but s x f))) (p .1)
-      (λ v n d. ⊎-elim (λ q. reaches-trans (met v n q) (_, edge (p .2))) (λ q. subst (λ (y : ℕ). Reaches t y (p .0)) (sym q) (_, edge (p .2))) (but-cases s x v f d)))
-      (λ e. (x, m, met x m e)) (true-or-false (bit s x))
-
-  pub stuck : left < 2 ^ 64 → (left ≡ 0 → ⊥) → (x : ℕ) × (x isIn left) × Reaches t x x
-  stuck f n = let m = a-member left f n in comes-round 64 left (m .0) f (ones-le 64 left f) (m .1) (λ v d e. absurd (false-no e d))
-
--- ---- entries join live roles
 
 pub joined-no : (live x : ℕ) (i a : List ℕ) (both near : ℕ) (w : Bool) → ((y : ℕ) → bit both y ≡ (bit (row i x) y || bit (row a x) y))
     → ((y : ℕ) → bit near y ≡ (bit live x && bit live y)) → (w ≡ true) ↔ (both areIn near) → w ≡ false → (false ≡ true) ↔ Joined (tables live i a)

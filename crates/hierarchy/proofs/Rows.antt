@@ -12,9 +12,8 @@ use Rattle.sets.proofs.Bools.{and-left, and-right, and-both, not-so}
 use Rattle.sets.proofs.Digits.{bit-zero}
 use Rattle.sets.proofs.Laws.{same-eq, same-self}
 use Rattle.sets.proofs.Members.{Taken, taken-part, taken-cases}
-use Rattle.hierarchy.specs.Tables.{Tables, row}
-use Rattle.hierarchy.specs.Views.{AreViews}
-use Rattle.hierarchy.specs.Engine.{IsDown, IsUp, Marked}
+use Rattle.hierarchy.specs.Tables.{row}
+use Rattle.hierarchy.specs.Engine.{IsUp, Marked}
 
 -- a row of the blank table has no member
 pub blank-row : (n x : ℕ) → row (replicate n 0) x ≡ 0
@@ -125,12 +124,3 @@ turning-end {live} {rest} {down} {up} empty inv x y = (
   where
     members : bit (row up y) x ≡ (bit live x && bit (row down x) y)
     members = inv .members x y ∙ ap (λ (p : Bool). p && bit (row down x) y) (ap (λ (q : Bool). bit live x && not q) (empty .none x) ∙ and-true (bit live x))
-
--- both views, from the two tables
-pub views-are : {t : Tables} {down up : List ℕ} → length down ≡ 64 → length up ≡ 64 → IsDown t down → IsUp (t .live) down up → AreViews t down up
-views-are dr ur d u = record {
-  down-rows = dr;
-  up-rows = ur;
-  down-is = d;
-  up-is = λ x y. (λ e. d x y .0 (u x y .0 e .1), λ w. u x y .1 (w .from, d x y .1 w));
-}

@@ -17,12 +17,11 @@ use Rattle.sets.proofs.Laws.{ext, bit-lt, same-eq, same-self, part-whole, minus
 use Rattle.sets.proofs.Members.{Drawn, drawn-kept, Taken, taken-part, taken-kept}
 use Rattle.hierarchy.specs.Tables.{Tables, tables, row, kind}
 use Rattle.hierarchy.specs.Words.{Derives, Way, Way.edge, Way.then, Reaches, Chain, Chain.stop, Chain.step}
-use Rattle.hierarchy.specs.Views.{Led, InOrder, InOrderViews}
-use Rattle.hierarchy.specs.Engine.{Entry, IsOf, OneOf, InRows, Spread, ByI, Settled, RightRows, Right, Waits, Swept, Ordered, IsDown, IsUp}
+use Rattle.hierarchy.specs.Views.{Settles, Settles.settle, SettledViews}
+use Rattle.hierarchy.specs.Engine.{Entry, IsOf, OneOf, InRows, Spread, ByI, Settled, RightRows, Right, Founded, Founded.founded, Waits, Swept, Ordered, IsUp}
 use Rattle.hierarchy.proofs.Derive.{edge-entry, derives↔descends}
-use Rattle.hierarchy.proofs.Rows.{row-set, blank-row, views-are}
-use Rattle.hierarchy.proofs.Managing.{a-member, no-iff}
-use Rattle.hierarchy.proofs.Rounds.{stuck}
+use Rattle.hierarchy.proofs.Rows.{row-set, blank-row}
+use Rattle.hierarchy.proofs.Managing.{a-member}
 
 -- ---- the rows of a set's members
 
@@ -123,12 +122,7 @@ module _ {table : List ℕ} {Own : ℕ → ℕ → Type 0} where
         (λ n. set .others y n ∙ inv .blank y (not-so (bit done y) (λ d. false-no e (done-is y ∙ or-left (bit done y) (same? x y) d))));
   }
 
--- ---- a path from a role whose juniors are done stays among the done
-
-module _ {live : ℕ} {i a : List ℕ} (done : ℕ) (closed : (x y : ℕ) → x isIn done → Entry i a x y → y isIn done) where
-  way-done : {x y k : ℕ} → ((y : ℕ) → Entry i a x y → y isIn done) → Way (tables live i a) x y k → y isIn done
-  way-done {x} {y} f (edge h) = f y (edge-entry (tables live i a) x y .0 h)
-  way-done {x} f (then {y = y} h w) = way-done (λ z e. closed y z (f y (edge-entry (tables live i a) x y .0 h)) e) w
+-- ---- a way down from a role that is done stays among the done
 
 chain-in : {table : List ℕ} (done : ℕ) → ((x y : ℕ) → x isIn done → y isIn row table x → y isIn done) → {x y : ℕ} → x isIn done → Chain table x y → y isIn done
 chain-in done f m stop = m
@@ -162,7 +156,7 @@ right-start i a = record {
   i-rows = rows-start;
   a-rows = rows-start;
   closed = λ x y e. absurd (false-no (bit-zero x) e);
-  loopless = λ live x e. absurd (false-no (bit-zero x) e);
+  ends = λ x e. absurd (false-no (bit-zero x) e);
 }
 
 pub sweep-start : {i a by-i down : List ℕ} {done left : ℕ} → Right i a by-i down done → Sweeping i a done left by-i down done left
@@ -187,7 +181,7 @@ module _ {i a : List ℕ} {done left now-done rest x rest′ : ℕ} {by-i down :
       a-rows = rows-more now-done′ (inv .right .a-rows) a-set
           (settled-right (inv .right .a-rows) (λ y e. below y (both-is y ∙ or-right (bit (row i x) y) (bit (row a x) y) e)) i-here a-set) (turn .role) done-is;
       closed = λ y z e d. done-is z ∙ or-left (bit now-done z) (same? x z) (⊎-elim (λ m. inv .right .closed y z m d) (λ q. juniors z (subst (λ (n : ℕ). Entry i a n z) q d)) (now y e));
-      loopless = λ live y e w. ⊎-elim (λ m. inv .right .loopless live y m w) (λ q. none live (subst (λ (n : ℕ). Reaches (tables live i a) n n) q w)) (now y e);
+      ends = λ y e. ⊎-elim (inv .right .ends y) (λ q. subst (Founded i a) (sym q) (founded (λ z d. inv .right .ends z (juniors z d)))) (now y e);
     };
     more = λ y e. done-is y ∙ or-left (bit now-done y) (same? x y) (inv .more y e);
     drawn = λ y e. inv .drawn y (and-left (bit rest y) (not (same? x y)) (sym (turn .rest-is y) ∙ e));
@@ -203,9 +197,6 @@ module _ {i a : List ℕ} {done left now-done rest x rest′ : ℕ} {by-i down :
 
       juniors : (y : ℕ) → Entry i a x y → y isIn now-done
       juniors y d = below y (both-is y ∙ ⊎-elim (or-left (bit (row i x) y) (bit (row a x) y)) (or-right (bit (row i x) y) (bit (row a x) y)) d)
-
-      none : (live : ℕ) → Reaches (tables live i a) x x → ⊥
-      none live w = inv .right .loopless live x (way-done now-done (inv .right .closed) juniors (w .1)) w
 
       i-here : (z : ℕ) → (z isIn r) ↔ ByI i x z
       i-here = settled-right (inv .right .i-rows) (λ y e. juniors y (inl e))
@@ -266,75 +257,63 @@ module _ {live done left : ℕ} {i a by-i down by-i′ down′ : List ℕ} (more
       still y n = not-so (bit more y) (λ m. ⊎-elim (false-no n)
           (λ l. false-no (rest-is y ∙ ap (λ (p : Bool). bit left y && not p) m ∙ and-false (bit left y)) (ap (λ (s : ℕ). bit s y) same ∙ l)) (sweep .part y m))
 
--- ---- all live roles are done: order
+-- ---- the roles that are done are those that settle
 
 module _ {live : ℕ} {i a by-i down : List ℕ} (done : ℕ) (ord : Ordered live i a by-i down done) where
   abbrev t : Tables
   t = tables live i a
 
-  module _ (all : done ≡ live) where
-    is-done : (x : ℕ) → x isIn live → x isIn done
-    is-done x m = subst (λ (s : ℕ). x isIn s) (sym all) m
+  done-settles : {x : ℕ} → x isIn done → Founded i a x → Settles t x
+  done-settles {x} m (founded f) =
+      settle (ord .part x m) (λ y h. let e = edge-entry t x y .0 h in done-settles (ord .right .closed x y m e) (f y e))
 
-    ordered : InOrder t
-    ordered = record {
-      juniors = λ x y m h. ord .part y (ord .right .closed x y (is-done x m) (edge-entry t x y .0 h));
-      loopless = λ x m. ord .right .loopless live x (is-done x m);
-    }
+  settles-done : (x : ℕ) → Settles t x → x isIn done
+  settles-done x (settle l f) =
+      ⊎-elim (λ m. m) (λ w. absurd (false-no (w .2) (settles-done (w .0) (f (w .0) (edge-entry t x (w .0) .1 (w .1)))))) (ord .waiting x l)
 
-    by-done : (x : ℕ) → x isIn done → (z : ℕ) → (z isIn row down x) ↔ Derives t x z
-    by-done x m z = (
-      λ e.
-          let s = ord .right .a-rows .right x m z .0 e in
-          let n = chain-in done (λ x y k d. ord .right .closed x y k (inr d)) m (s .chain) in
-          let u : Chain i (s .at) z = subst (Chain i (s .at)) (s .on .on) (s .on .chain) in
-          derives↔descends .1 (record {
-            from = ord .part x m;
-            to = ord .part z (chain-in done (λ x y k d. ord .right .closed x y k (inl d)) n u);
-            mid = s .at;
-            down-a = s .chain;
-            down-i = u;
-          }),
-      λ d. let s = derives↔descends .0 d in ord .right .a-rows .right x m z .1 (record { at = s .mid; chain = s .down-a; on = record { at = z; chain = s .down-i; on = refl } }),
-    )
+  by-done : (x : ℕ) → x isIn done → (z : ℕ) → (z isIn row down x) ↔ Derives t x z
+  by-done x m z = (
+    λ e.
+        let s = ord .right .a-rows .right x m z .0 e in
+        let n = chain-in done (λ x y k d. ord .right .closed x y k (inr d)) m (s .chain) in
+        let u : Chain i (s .at) z = subst (Chain i (s .at)) (s .on .on) (s .on .chain) in
+        derives↔descends .1 (record {
+          from = ord .part x m;
+          to = ord .part z (chain-in done (λ x y k d. ord .right .closed x y k (inl d)) n u);
+          mid = s .at;
+          down-a = s .chain;
+          down-i = u;
+        }),
+    λ d. let s = derives↔descends .0 d in ord .right .a-rows .right x m z .1 (record { at = s .mid; chain = s .down-a; on = record { at = z; chain = s .down-i; on = refl } }),
+  )
 
-    down-done : IsDown t down
-    down-done x z = ⊎-elim
-        (λ m. by-done x m z)
-        (λ n. (
-          λ e. absurd (false-no (ap (λ (w : ℕ). bit w z) (ord .right .a-rows .blank x n) ∙ bit-zero z) e),
-          λ d. absurd (false-no n (is-done x (d .from))),
-        ))
-        (true-or-false (bit done x))
+  down-done : (x z : ℕ) → (z isIn row down x) ↔ ((x isIn done) × Derives t x z)
+  down-done x z = ⊎-elim
+      (λ m. (λ e. (m, by-done x m z .0 e), λ d. by-done x m z .1 (d .1)))
+      (λ n. (
+        λ e. absurd (false-no (ap (λ (w : ℕ). bit w z) (ord .right .a-rows .blank x n) ∙ bit-zero z) e),
+        λ d. absurd (false-no n (d .0)),
+      ))
+      (true-or-false (bit done x))
 
-    pub ordered-views : {old-down old-up up : List ℕ} → length up ≡ 64 → IsUp live down up → InOrderViews t old-down old-up true down up
-    ordered-views rows up-is = record {
-      in-order = (λ _. ordered, λ _. refl);
-      views = λ _. views-are (ord .right .a-rows .rows) rows down-done up-is;
-      left = λ e. absurd (false-no e refl);
-    }
+  settled-by : {up : List ℕ} → length up ≡ 64 → ((x y : ℕ) → (x isIn row up y) ↔ ((done ≡ live) × Derives t x y)) → SettledViews t done down up
+  settled-by rows up-is = record {
+    which = λ x. (λ m. done-settles m (ord .right .ends x m), settles-done x);
+    down-is = down-done;
+    up-is = up-is;
+    down-rows = ord .right .a-rows .rows;
+    up-rows = rows;
+  }
 
-  -- who is left waits for one who is left, so going down comes round
-  module _ (live-fits : live < 2 ^ 64) (done-fits : done < 2 ^ 64) where
-    waits : InOrder t → (x : ℕ) → x isIn less live done → (y : ℕ) × (y isIn less live done) × (kind t x y ≢ 0)
-    waits o x m =
-        let l = in-less live done live-fits x m in
-        let y : Waits i a done x = ⊎-elim (λ d. absurd (false-no (l .1) d)) (λ w. w) (ord .waiting x (l .0)) in
-        let h : kind t x (y .0) ≢ 0 = edge-entry t x (y .0) .1 (y .1) in
-        (y .0, less-is live done live-fits (y .0) ∙ and-both (bit live (y .0)) (not (bit done (y .0))) (o .juniors x (y .0) (l .0) h) (ap not (y .2)), h)
+  -- all of them, and down is turned round; or not all, and up is blank
+  pub settled-all : {up : List ℕ} → done ≡ live → length up ≡ 64 → IsUp live down up → SettledViews t done down up
+  settled-all all rows turned = settled-by rows (λ x y. (
+    λ e. (all, down-done x y .0 (turned x y .0 e .1) .1),
+    λ d. turned x y .1 (d .1 .from, down-done x y .1 (subst (λ (s : ℕ). x isIn s) (sym all) (d .1 .from), d .1)),
+  ))
 
-    all-done : InOrder t → live areIn done
-    all-done o x m = ⊎-elim (λ d. d) (λ n. absurd (none n)) (true-or-false (bit done x))
-      where
-        none : bit done x ≡ false → ⊥
-        none n =
-            let here : x isIn less live done = less-is live done live-fits x ∙ and-both (bit live x) (not (bit done x)) m (ap not n) in
-            let w = stuck (less live done) (waits o) (setOf-fits _) (λ z. false-no (ap (λ (s : ℕ). bit s x) z ∙ bit-zero x) here) in
-            o .loopless (w .0) (in-less live done live-fits (w .0) (w .1) .0) (w .2)
-
-    pub no-views : {old-down old-up : List ℕ} → (done ≡ live → ⊥) → InOrderViews t old-down old-up false old-down old-up
-    no-views n = record {
-      in-order = no-iff (λ o. n (ext 64 done live done-fits live-fits (λ x _. iff-same (bit done x) (bit live x) (ord .part x) (all-done o x))));
-      views = λ e. absurd (false-no refl e);
-      left = λ _. (refl, refl);
-    }
+  pub settled-some : {up : List ℕ} → (done ≡ live → ⊥) → up ≡ replicate 64 0 → SettledViews t done down up
+  settled-some n e = settled-by (ap length e) (λ x y. (
+    λ m. absurd (false-no (ap (λ (w : List ℕ). bit (row w y) x) e ∙ ap (λ (w : ℕ). bit w x) (blank-row 64 y) ∙ bit-zero x) m),
+    λ d. absurd (n (d .0)),
+  ))

@@ -1,7 +1,6 @@
 -- The words of scope read off the views of a table are the words themselves; and their answers are settled. Assumes nothing.
 use mathlib.Core.Path.{_≡_, refl, sym, _∙_, ap, subst}
 use mathlib.Core.Logic.{⊎-map, _↔_, Iff·symm, Iff·trans}
-use mathlib.Core.Bool.{Bool, true, false}
 use mathlib.Core.List.{List}
 use Prim.Native.Nat.{ℕ, suc, _≤_}
 use native.Mathlib.Nat.{le-of-eq, le-trans, le-antisymm}
@@ -12,17 +11,17 @@ use lib.Seq.{ext-getD}
 use Rattle.sets.specs.Sets.{_isIn_}
 use Rattle.sets.specs.declared.Pick.{Pick}
 use Rattle.sets.specs.declared.Pick.the-variants.{Role, Nobody}
-use Rattle.sets.proofs.Bools.{test-unique}
 use Rattle.sets.proofs.Laws.{same-members}
 use Rattle.hierarchy.specs.declared.scopes.Climbed.{Climbed}
 use Rattle.hierarchy.specs.declared.scopes.Climbed.the-variants.{Steps, Stopped}
 use Rattle.hierarchy.specs.Tables.{Tables, row, Live}
-use Rattle.hierarchy.specs.Words.{Reaches, Scope, Administrator, LineManager, Loops, Sound, Climb}
+use Rattle.hierarchy.specs.Words.{Derives, Reaches, Scope, Administrator, LineManager, Loops, Sound, Climb}
 use Rattle.hierarchy.specs.Words.{Climb.top}
-use Rattle.hierarchy.specs.Views.{AreViews, InOrderViews, ScopeBy, AdminBy, ManagerBy, Managing, ClimbBy, Climbing}
+use Rattle.hierarchy.specs.Views.{AreViews, InOrder, SettledViews, ScopeBy, AdminBy, ManagerBy, Managing, ClimbBy, Climbing}
 use Rattle.hierarchy.specs.Views.{ClimbBy.arrived, ClimbBy.further}
 use Rattle.hierarchy.proofs.Admin.{admin-reaches, manager-unique}
 use Rattle.hierarchy.proofs.ClimbLaws.{climbs, no-senior, climb-short}
+use Rattle.hierarchy.proofs.Order.{settles-live}
 
 -- ---- read off views of t
 
@@ -126,14 +125,35 @@ views-unique v w = (
   table-ext (v .up-rows ∙ sym (w .up-rows)) (λ y x. Iff·trans (v .up-is x y) (Iff·symm (w .up-is x y))),
 )
 
--- and there is one answer on their order, with one content of what is lent.
-pub in-order-unique : {t : Tables} {down up d u d′ u′ : List ℕ} {p q : Bool} → InOrderViews t down up p d u → InOrderViews t down up q d′ u′
-    → (p ≡ q) × (d ≡ d′) × (u ≡ u′)
-in-order-unique {d = d} {u = u} {d′ = d′} {u′ = u′} {p = p} {q = q} v w = (same, both p refl .0, both p refl .1)
+-- and so have one set of roles that settle, with the views as far as they go.
+pub settled-unique : {t : Tables} {s s′ : ℕ} {d u d′ u′ : List ℕ} → SettledViews t s d u → SettledViews t s′ d′ u′ → (s ≡ s′) × (d ≡ d′) × (u ≡ u′)
+settled-unique {t} {s} {s′} v w = (
+  same,
+  table-ext (v .down-rows ∙ sym (w .down-rows)) (λ x y. Iff·trans (v .down-is x y) (Iff·trans (down-same x y) (Iff·symm (w .down-is x y)))),
+  table-ext (v .up-rows ∙ sym (w .up-rows)) (λ y x. Iff·trans (v .up-is x y) (Iff·trans (up-same x y) (Iff·symm (w .up-is x y)))),
+)
   where
-    same : p ≡ q
-    same = test-unique (v .in-order) (w .in-order)
+    same : s ≡ s′
+    same = same-members s s′ (λ x. Iff·trans (v .which x) (Iff·symm (w .which x)))
 
-    both : (o : Bool) → p ≡ o → (d ≡ d′) × (u ≡ u′)
-    both true e = views-unique (v .views e) (w .views (sym same ∙ e))
-    both false e = let l = v .left e in let r = w .left (sym same ∙ e) in (l .0 ∙ sym (r .0), l .1 ∙ sym (r .1))
+    down-same : (x y : ℕ) → ((x isIn s) × Derives t x y) ↔ ((x isIn s′) × Derives t x y)
+    down-same x y = (λ m. (subst (λ (k : ℕ). x isIn k) same (m .0), m .1), λ m. (subst (λ (k : ℕ). x isIn k) (sym same) (m .0), m .1))
+
+    up-same : (x y : ℕ) → ((s ≡ t .live) × Derives t x y) ↔ ((s′ ≡ t .live) × Derives t x y)
+    up-same x y = (λ m. (sym same ∙ m .0, m .1), λ m. (same ∙ m .0, m .1))
+
+-- Where all live roles settle they are in order, and what there is are the views.
+module _ {t : Tables} {s : ℕ} {down up : List ℕ} (v : SettledViews t s down up) where
+  pub in-order-is : (s ≡ t .live) ↔ InOrder t
+  in-order-is = (
+    λ e x l. v .which x .0 (subst (λ (k : ℕ). x isIn k) (sym e) l),
+    λ o. same-members s (t .live) (λ x. (λ m. settles-live (v .which x .0 m), λ l. v .which x .1 (o x l))),
+  )
+
+  pub settled-views : s ≡ t .live → AreViews t down up
+  settled-views e = record {
+    down-rows = v .down-rows;
+    up-rows = v .up-rows;
+    down-is = λ x y. (λ m. v .down-is x y .0 m .1, λ d. v .down-is x y .1 (subst (λ (k : ℕ). x isIn k) (sym e) (d .from), d));
+    up-is = λ x y. (λ m. v .up-is x y .0 m .1, λ d. v .up-is x y .1 (e, d));
+  }

@@ -8,8 +8,8 @@ use lib.ListN.{length}
 use Rattle.sets.specs.Sets.{bit, _isIn_, _areIn_, same?, NoRole}
 use Rattle.sets.specs.declared.Pick.{Pick}
 use Rattle.sets.specs.declared.Pick.the-variants.{Role, Nobody}
-use Rattle.hierarchy.specs.Tables.{Tables, tables, row}
-use Rattle.hierarchy.specs.Words.{Derives, Reaches, Chain}
+use Rattle.hierarchy.specs.Tables.{row}
+use Rattle.hierarchy.specs.Words.{Chain}
 
 -- an entry of either table
 abbrev pub Entry : List ℕ → List ℕ → ℕ → ℕ → Type 0
@@ -44,12 +44,16 @@ pub record RightRows (table : List ℕ) (Own : ℕ → ℕ → Type 0) (reach : 
   pub right : (x : ℕ) → x isIn done → (z : ℕ) → (z isIn row reach x) ↔ Spread table Own x z
   pub blank : (x : ℕ) → bit done x ≡ false → row reach x ≡ 0
 
--- both tables are right so far; juniors of roles that are done are done, and none of these reaches itself
+-- no way down from x goes on for ever
+pub data Founded (i a : List ℕ) : ℕ → Type 0 where
+  founded : {x : ℕ} → ((y : ℕ) → Entry i a x y → Founded i a y) → Founded i a x
+
+-- both tables are right so far; juniors of roles that are done are done, and no way down from these goes on for ever
 pub record Right (i a by-i down : List ℕ) (done : ℕ) : Type 0 where
   pub i-rows : RightRows i (λ x z. x ≡ z) by-i done
   pub a-rows : RightRows a (ByI i) down done
   pub closed : (x y : ℕ) → x isIn done → Entry i a x y → y isIn done
-  pub loopless : (live x : ℕ) → x isIn done → Reaches (tables live i a) x x → ⊥
+  pub ends : (x : ℕ) → x isIn done → Founded i a x
 
 -- one role of s, whichever
 pub record IsOf (s r : ℕ) : Type 0 where
@@ -76,10 +80,6 @@ pub record Ordered (live : ℕ) (i a by-i down : List ℕ) (r : ℕ) : Type 0 wh
   pub right : Right i a by-i down r
   pub part : r areIn live
   pub waiting : (x : ℕ) → x isIn live → (x isIn r) ⊎ Waits i a r x
-
--- each row of down is what its role derives
-abbrev pub IsDown : Tables → List ℕ → Type 0
-IsDown t down = (x y : ℕ) → (y isIn row down x) ↔ Derives t x y
 
 -- up is the part of down that starts at live roles, turned round
 abbrev pub IsUp : ℕ → List ℕ → List ℕ → Type 0

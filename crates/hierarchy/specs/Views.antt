@@ -1,7 +1,6 @@
 -- The two tables that are worked out once a board and handed on: row x of `down` is the set of what x derives, row y of `up` the
 -- set of what derives y. The words of scope again, read off such tables; `Rattle.hierarchy.proofs.ViewLaws` says that they are the same.
 use mathlib.Core.Path.{_≡_}
-use mathlib.Core.Bool.{Bool, true, false}
 use mathlib.Core.Logic.{_≢_, _⊎_, _↔_}
 use mathlib.Core.List.{List}
 use Prim.Native.Nat.{ℕ, suc, _≤_, _<_}
@@ -12,7 +11,7 @@ use Rattle.sets.specs.declared.Pick.the-variants.{Role, Nobody}
 use Rattle.hierarchy.specs.declared.scopes.Climbed.{Climbed}
 use Rattle.hierarchy.specs.declared.scopes.Climbed.the-variants.{Steps, Stopped}
 use Rattle.hierarchy.specs.Tables.{Tables, row, Live, kind}
-use Rattle.hierarchy.specs.Words.{Derives, Reaches, Chain}
+use Rattle.hierarchy.specs.Words.{Derives, Chain}
 
 -- y is led to, through one table alone, from a role of s
 pub record Led (rows : List ℕ) (s y : ℕ) : Type 0 where
@@ -27,17 +26,23 @@ pub record AreViews (t : Tables) (down up : List ℕ) : Type 0 where
   pub down-is : (x y : ℕ) → (y isIn row down x) ↔ Derives t x y
   pub up-is : (x y : ℕ) → (x isIn row up y) ↔ Derives t x y
 
--- The live roles are in order: all juniors of theirs live, and none reaches itself. Where entries join live roles, this is that there
--- is no loop (`Rattle.hierarchy.proofs.Order`, `order-loopless`).
-pub record InOrder (t : Tables) : Type 0 where
-  pub juniors : (x y : ℕ) → Live t x → kind t x y ≢ 0 → Live t y
-  pub loopless : (x : ℕ) → Live t x → Reaches t x x → ⊥
+-- A role settles when it lives and all its juniors settle: no way down from it meets a role that doesn't live, and none goes on for ever.
+pub data Settles (t : Tables) : ℕ → Type 0 where
+  settle : {x : ℕ} → Live t x → ((y : ℕ) → kind t x y ≢ 0 → Settles t y) → Settles t x
 
--- Whether there is order. Where there is, what is lent holds both views at the end; where there is none, it is as it was.
-pub record InOrderViews (t : Tables) (down up : List ℕ) (order : Bool) (down′ up′ : List ℕ) : Type 0 where
-  pub in-order : (order ≡ true) ↔ InOrder t
-  pub views : order ≡ true → AreViews t down′ up′
-  pub left : order ≡ false → (down′ ≡ down) × (up′ ≡ up)
+-- The live roles are in order: all of them settle. Where entries join live roles, this is that there is no loop
+-- (`Rattle.hierarchy.proofs.Order`, `order-loopless`).
+abbrev pub InOrder : Tables → Type 0
+InOrder t = (x : ℕ) → Live t x → Settles t x
+
+-- Which roles settle, and what each of these derives, in `down`; `up` is worked out only where all live roles settle, and both are the
+-- views of t then.
+pub record SettledViews (t : Tables) (settled : ℕ) (down up : List ℕ) : Type 0 where
+  pub which : (x : ℕ) → (x isIn settled) ↔ Settles t x
+  pub down-is : (x y : ℕ) → (y isIn row down x) ↔ ((x isIn settled) × Derives t x y)
+  pub up-is : (x y : ℕ) → (x isIn row up y) ↔ ((settled ≡ t .live) × Derives t x y)
+  pub down-rows : length down ≡ 64
+  pub up-rows : length up ≡ 64
 
 -- r is in the scope of a
 pub record ScopeBy (down up : List ℕ) (a r : ℕ) : Type 0 where

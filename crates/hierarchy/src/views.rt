@@ -5,7 +5,7 @@ ghost use Prim.Native.Nat.{ℕ, _<_};
 ghost use lib.ListN.{length, replicate};
 ghost use Rattle.sets.specs.Sets.{_isIn_};
 ghost use Rattle.hierarchy.specs.Tables.{tables};
-ghost use Rattle.hierarchy.specs.Views.{InOrderViews};
+ghost use Rattle.hierarchy.specs.Views.{SettledViews};
 ghost use Rattle.hierarchy.specs.Engine.{InRows, OneOf, Settled, Right, Swept, Ordered, IsUp, Marked};
 use sets::Pick;
 use sets::but_lowest;
@@ -132,11 +132,11 @@ fn mark(up: &mut [u64; 64], s: u64, x: usize)
     }
 }
 
-// What derives each role: `down` turned round, by its members.
+// What derives each role: `down` turned round, by its members, into a blank table.
 fn turn(live: u64, down: &[u64; 64], up: &mut [u64; 64])
+    requires { ⌜ now up ≡ replicate 64 0 ⌝ }
     ensures { λ _. ⌜ (length (now (up .exit)) ≡ 64) × IsUp live (now (down .entry)) (now (up .exit)) ⌝ }
 {
-    blank(up);
     let mut rest = live;
     loop {
         let Pick::Role(x) = lowest(rest) else {
@@ -147,23 +147,24 @@ fn turn(live: u64, down: &[u64; 64], up: &mut [u64; 64])
     }
 }
 
-// Both views of a board whose live roles are in order: row x of `down` becomes the set of what x derives, row y of `up` the set of what
-// derives y. Where there is no order, both stay as they were.
-pub fn views_in_order<'t>(
+// Settles the roles of a board from the juniors up, and gives the set of those that settle. Row x of `down` becomes the set of what x
+// derives, for each of these, and is blank for the others. Where all live roles settle, row y of `up` becomes the set of what derives y, and
+// the two are the board's views; else `up` becomes blank.
+pub fn settled_views<'t>(
     live: u64,
     i: &'t [u64; 64],
     a: &'t [u64; 64],
     down: &mut [u64; 64],
     up: &mut [u64; 64],
-) -> bool
-    ensures { λ r. ⌜ InOrderViews (tables live (now (i .entry)) (now (a .entry))) (now (down .entry)) (now (up .entry)) r (now (down .exit)) (now (up .exit)) ⌝ }
+) -> u64
+    ensures { λ r. ⌜ SettledViews (tables live (now (i .entry)) (now (a .entry))) r (now (down .exit)) (now (up .exit)) ⌝ }
 {
     let mut by_i = [0u64; 64];
-    let mut derived = [0u64; 64];
-    if order(live, i, a, &mut by_i, &mut derived) != live {
-        return false;
+    blank(down);
+    blank(up);
+    let settled = order(live, i, a, &mut by_i, down);
+    if settled == live {
+        turn(live, down, up);
     }
-    turn(live, &derived, up);
-    *down = derived;
-    true
+    settled
 }

@@ -1,4 +1,4 @@
-use mathlib.Core.Path.{refl, sym, subst}
+use mathlib.Core.Path.{sym, subst}
 use Rattle.boardfile.specs.Answers.{ReadAnswer}
 use Rattle.boardfile.proofs.Readings.{read-refused, read-done}
 use borrow.Author.Needs.{needs}
@@ -6,7 +6,7 @@ use Rattle.boardfile.proofs.read.Statement.{statement}
 use Rattle.boardfile.proofs.read.Tie as tie
 
 open-requires : tie.Need-open-requires
-open-requires c κs = (refl, refl)
+open-requires c κs = search needs
 
 founding-requires : tie.Need-founding-requires
 founding-requires c κs = search needs

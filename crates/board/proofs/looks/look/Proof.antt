@@ -2,8 +2,7 @@ use mathlib.Core.Path.{sym, _∙_}
 use borrow.Author.Tests.{not-true, not-false}
 use Rattle.sets.proofs.Bools.{false-no}
 use Rattle.hierarchy.specs.Tables.{tables, Shaped}
-use Rattle.hierarchy.proofs.Order.{order-loopless}
-use Rattle.board.proofs.Looking.{holds, fails, look-is, unseen}
+use Rattle.board.proofs.Looking.{holds, fails, look-is, no-order, unseen}
 use borrow.Author.Needs.{needs}
 use Rattle.board.proofs.looks.look.Statement.{statement}
 use Rattle.board.proofs.looks.look.Tie as tie
@@ -23,17 +22,17 @@ joined-requires c κs = search needs
 returns-2 : tie.Need-returns-2
 returns-2 c = unseen (λ s. fails (c .before .joined .ensures) (not-true _ (c .if2 .taken)) (s .joined))
 
-views-in-order-requires : tie.Need-views-in-order-requires
-views-in-order-requires c κs = search needs
+settled-views-requires : tie.Need-settled-views-requires
+settled-views-requires c κs = search needs
 
 returns-3 : tie.Need-returns-3
-returns-3 c = unseen (λ s. fails (c .before .views-in-order .ensures .in-order) (not-true _ (c .if3 .taken)) (order-loopless (s .joined) .1 (s .loopless)))
+returns-3 c = unseen (no-order (c .before .settled-views .ensures) (c .if3 .taken))
 
 managed-requires : tie.Need-managed-requires
 managed-requires c κs = search needs
 
 returns-4 : tie.Need-returns-4
-returns-4 c = look-is (shaped (c .before .before .before .before .before .before .before .before .before .before .before)) (sym (c .before .before .before .before .before .before .before .before .before .before .has .ensures) ∙ not-false _ (c .before .before .before .before .before .before .before .before .before .if1 .left)) (holds (c .before .before .before .before .before .before .before .before .joined .ensures) (not-false _ (c .before .before .before .before .before .before .before .if2 .left))) (c .before .before .before .before .views-in-order .ensures) (not-false _ (c .before .before .before .if3 .left)) (c .managed .ensures)
+returns-4 c = look-is (shaped (c .before .before .before .before .before .before .before .before .before .before .before)) (sym (c .before .before .before .before .before .before .before .before .before .before .has .ensures) ∙ not-false _ (c .before .before .before .before .before .before .before .before .before .if1 .left)) (holds (c .before .before .before .before .before .before .before .before .joined .ensures) (not-false _ (c .before .before .before .before .before .before .before .if2 .left))) (c .before .before .before .before .settled-views .ensures) (c .before .before .before .if3 .left) (c .managed .ensures)
 
 pub look-spec : {M : Type 1} → statement M
 look-spec =
@@ -43,7 +42,7 @@ look-spec =
     returns
     joined-requires
     returns-2
-    views-in-order-requires
+    settled-views-requires
     returns-3
     managed-requires
     returns-4)

@@ -10,7 +10,7 @@ use Rattle.boardfile.proofs.commands.command.Statement.{statement}
 use Rattle.boardfile.proofs.commands.command.Tie as tie
 
 open-requires : tie.Need-open-requires
-open-requires c κs = (refl, refl)
+open-requires c κs = search needs
 
 decided : (c : tie.After-decide) → Decided (boardOf (c .before .before .before .before .before .before .before .«open» .result .live) (c .before .before .before .before .before .before .before .«open» .last .1 .0) (c .before .before .before .before .before .before .before .«open» .last .1 .1 .0)) (c .before .before .before .before .before .before .before .before .before .before .before .before .before .before .args .c) (c .decide .result .number) (c .decide .result .board)
 decided c = decided-viewed (viewed (c .before .before .before .before .before .before .before .«open» .ensures) (c .before .before .before .before .before .if1 .left)) (c .decide .ensures)

@@ -1,4 +1,4 @@
-use mathlib.Core.Path.{subst}
+use mathlib.Core.Path.{refl, subst}
 use mathlib.Core.Bool.{Bool, true}
 use native.Mathlib.Omega.{arith}
 use borrow.Author.Tests.{not-true, not-false}
@@ -21,15 +21,15 @@ refused-requires : tie.Need-refused-requires
 refused-requires c κs = search needs
 
 -- the parts, past the tests
-good-frame : (c : tie.After-known-told) → GoodFrame (c .before .before .before .before .before .args .file .now) (c .before .roles .given .0 .0) (c .before .roles .given .0 .1 .0)
-good-frame c = subst (Framing (c .before .before .before .before .before .args .file .now)) (c .before .roles .given .1) (c .before .before .before .frame .ensures)
+good-frame : (c : tie.After-known-told) → GoodFrame (c .before .before .before .before .before .before .before .args .file .now) (c .before .roles .given .0 .0) (c .before .roles .given .0 .1 .0)
+good-frame c = subst (Framing (c .before .before .before .before .before .before .before .args .file .now)) (c .before .roles .given .1) (c .before .before .before .frame .ensures)
 
-good-roles : (c : tie.After-known-told2) → GoodRoles (c .before .before .before .before .before .before .before .before .before .args .file .now) (c .before .before .before .before .before .roles .given .0 .0) (c .before .live .given .0 .0)
-good-roles c = subst (Listing (c .before .before .before .before .before .before .before .before .before .args .file .now) (c .before .before .before .before .before .roles .given .0 .0)) (c .before .live .given .1) (c .before .before .before .listed .ensures)
+good-roles : (c : tie.After-known-told2) → GoodRoles (c .before .before .before .before .before .before .before .before .before .before .before .args .file .now) (c .before .before .before .before .before .roles .given .0 .0) (c .before .live .given .0 .0)
+good-roles c = subst (Listing (c .before .before .before .before .before .before .before .before .before .before .before .args .file .now) (c .before .before .before .before .before .roles .given .0 .0)) (c .before .live .given .1) (c .before .before .before .listed .ensures)
 
 -- what the answer of edges says of the two tables
 abbrev Told : tie.After-edges → Bool → Type 0
-Told c good = Entering (c .before .before .before .before .before .before .before .before .before .before .before .before .args .file .now) (c .before .before .before .before .before .before .before .before .roles .given .0 .0) (c .before .before .before .before .before .before .before .before .roles .given .0 .1 .0) (c .before .before .before .before .live .given .0 .0) good (c .edges .last .1 .1 .1 .1 .0) (c .edges .last .1 .1 .1 .1 .1 .0)
+Told c good = Entering (c .before .before .before .before .before .before .before .before .before .before .before .before .before .before .args .file .now) (c .before .before .before .before .before .before .before .before .roles .given .0 .0) (c .before .before .before .before .before .before .before .before .roles .given .0 .1 .0) (c .before .before .before .before .live .given .0 .0) good (c .edges .last .1 .1 .1 .1 .0) (c .edges .last .1 .1 .1 .1 .1 .0)
 
 good-edges : (c : tie.Else1) → Told (c .before) true
 good-edges c = subst (Told (c .before)) (not-false (c .before .edges .result) (c .if1 .left)) (c .before .edges .ensures)
@@ -50,10 +50,10 @@ refused-requires-2 : tie.Need-refused-requires-2
 refused-requires-2 c κs = search needs
 
 returns-2 : tie.Need-returns-2
-returns-2 c = refused-record (good-frame (c .before .before .before .before) .faultless) (subst (Listing (c .before .before .before .before .before .before .before .before .before .args .file .now) (c .before .before .before .before .before .roles .given .0 .0)) (c .before .enum-told2 .given .1) (c .before .before .before .listed .ensures)) (c .refused2 .ensures)
+returns-2 c = refused-record (good-frame (c .before .before .before .before) .faultless) (subst (Listing (c .before .before .before .before .before .before .before .before .before .before .before .args .file .now) (c .before .before .before .before .before .roles .given .0 .0)) (c .before .enum-told2 .given .1) (c .before .before .before .listed .ensures)) (c .refused2 .ensures)
 
 edges-requires : tie.Need-edges-requires
-edges-requires c κs = (good-frame (c .before .before .before .before .before .before), good-roles (c .before .before), c .before .before .before .before .before .before .before .before .before .before .before .pre .0, c .before .before .before .before .before .before .before .before .before .before .before .pre .1)
+edges-requires c κs = (good-frame (c .before .before .before .before .before .before), good-roles (c .before .before), refl, refl)
 
 refused-requires-3 : tie.Need-refused-requires-3
 refused-requires-3 c κs = search needs
@@ -61,14 +61,14 @@ refused-requires-3 c κs = search needs
 returns-3 : tie.Need-returns-3
 returns-3 c = refused-record (good-frame (c .before .before .before .before .before .before .before .before .before) .faultless) (subst (Told (c .before .before)) (not-true (c .before .before .edges .result) (c .before .if1 .taken)) (c .before .before .edges .ensures)) (c .refused3 .ensures)
 
-views-in-order-requires : tie.Need-views-in-order-requires
-views-in-order-requires c κs = search needs
+settled-views-requires : tie.Need-settled-views-requires
+settled-views-requires c κs = search needs
 
 refused-requires-4 : tie.Need-refused-requires-4
 refused-requires-4 c κs = search needs
 
 returns-4 : tie.Need-returns-4
-returns-4 c = opened-7 (good-frame (c .before .before .before .before .before .before .before .before .before .before .before .before .before .before .before)) (good-roles (c .before .before .before .before .before .before .before .before .before .before .before)) (good-edges (c .before .before .before .before .before .before .before)) (c .before .before .views-in-order .ensures) (not-true _ (c .before .if2 .taken)) (c .refused4 .ensures)
+returns-4 c = opened-7 (good-frame (c .before .before .before .before .before .before .before .before .before .before .before .before .before .before .before)) (good-roles (c .before .before .before .before .before .before .before .before .before .before .before)) (good-edges (c .before .before .before .before .before .before .before)) (c .before .before .settled-views .ensures) (c .before .if2 .taken) (c .refused4 .ensures)
 
 managed-requires : tie.Need-managed-requires
 managed-requires c κs = search needs
@@ -77,10 +77,10 @@ refused-requires-5 : tie.Need-refused-requires-5
 refused-requires-5 c κs = search needs
 
 returns-5 : tie.Need-returns-5
-returns-5 c = opened-9 (good-frame (c .before .before .before .before .before .before .before .before .before .before .before .before .before .before .before .before .before .before .before)) (good-roles (c .before .before .before .before .before .before .before .before .before .before .before .before .before .before .before)) (good-edges (c .before .before .before .before .before .before .before .before .before .before .before)) (c .before .before .before .before .before .before .views-in-order .ensures) (not-false _ (c .before .before .before .before .before .if2 .left)) (c .before .before .managed .ensures) (not-true _ (c .before .if3 .taken)) (c .refused5 .ensures)
+returns-5 c = opened-9 (good-frame (c .before .before .before .before .before .before .before .before .before .before .before .before .before .before .before .before .before .before .before)) (good-roles (c .before .before .before .before .before .before .before .before .before .before .before .before .before .before .before)) (good-edges (c .before .before .before .before .before .before .before .before .before .before .before)) (c .before .before .before .before .before .before .settled-views .ensures) (c .before .before .before .before .before .if2 .left) (c .before .before .managed .ensures) (not-true _ (c .before .if3 .taken)) (c .refused5 .ensures)
 
 returns-6 : tie.Need-returns-6
-returns-6 c = opened (good-frame (c .before .before .before .before .before .before .before .before .before .before .before .before .before .before .before .before .before .before)) (good-roles (c .before .before .before .before .before .before .before .before .before .before .before .before .before .before)) (good-edges (c .before .before .before .before .before .before .before .before .before .before)) (c .before .before .before .before .before .views-in-order .ensures) (not-false _ (c .before .before .before .before .if2 .left)) (c .before .managed .ensures) (not-false _ (c .if3 .left))
+returns-6 c = opened (good-frame (c .before .before .before .before .before .before .before .before .before .before .before .before .before .before .before .before .before .before)) (good-roles (c .before .before .before .before .before .before .before .before .before .before .before .before .before .before)) (good-edges (c .before .before .before .before .before .before .before .before .before .before)) (c .before .before .before .before .before .settled-views .ensures) (c .before .before .before .before .if2 .left) (c .before .managed .ensures) (not-false _ (c .if3 .left))
 
 pub open-spec : {M : Type 1} → statement M
 open-spec =
@@ -99,7 +99,7 @@ open-spec =
     edges-requires
     refused-requires-3
     returns-3
-    views-in-order-requires
+    settled-views-requires
     refused-requires-4
     returns-4
     managed-requires

@@ -1,9 +1,9 @@
-use mathlib.Core.Path.{refl}
+use borrow.Author.Needs.{needs}
 use Rattle.boardfile.proofs.questions.check.Statement.{statement}
 use Rattle.boardfile.proofs.questions.check.Tie as tie
 
 open-requires : tie.Need-open-requires
-open-requires c κs = (refl, refl)
+open-requires c κs = search needs
 
 returns : tie.Need-returns
 returns c = c .«open» .ensures .numbered

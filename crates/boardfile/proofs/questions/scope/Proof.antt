@@ -1,4 +1,3 @@
-use mathlib.Core.Path.{refl}
 use Rattle.board.proofs.Asking.{answer-refused}
 use Rattle.board.proofs.Viewing.{scope-viewed}
 use Rattle.boardfile.proofs.Asking.{asked-refused, on-file}
@@ -8,7 +7,7 @@ use Rattle.boardfile.proofs.questions.scope.Statement.{statement}
 use Rattle.boardfile.proofs.questions.scope.Tie as tie
 
 open-requires : tie.Need-open-requires
-open-requires c κs = (refl, refl)
+open-requires c κs = search needs
 
 returns : tie.Need-returns
 returns c = answer-refused (asked-refused _ _ _ _ (c .before .before .«open» .ensures .numbered) (c .if1 .taken)) (c .if1 .taken)

@@ -1,4 +1,3 @@
-use mathlib.Core.Path.{refl}
 use Rattle.board.proofs.Asking.{answer-refused}
 use Rattle.boardfile.specs.Answers.{BoundsAnswer}
 use Rattle.boardfile.proofs.Asking.{asked-refused, of-file}
@@ -9,7 +8,7 @@ use Rattle.boardfile.proofs.stretches.bounds.Statement.{statement}
 use Rattle.boardfile.proofs.stretches.bounds.Tie as tie
 
 open-requires : tie.Need-open-requires
-open-requires c κs = (refl, refl)
+open-requires c κs = search needs
 
 nothing-requires : tie.Need-nothing-requires
 nothing-requires c κs = search needs

@@ -15,11 +15,8 @@ Inv-loop live down up₀ rest₀ up rest = Turning live down up rest
 abbrev μ-loop : tie.MeasureT-loop
 μ-loop live down up₀ rest₀ up rest = ones rest
 
-blank-requires : tie.Need-blank-requires Inv-loop μ-loop
-blank-requires c κs = search needs
-
 loop-holds : tie.Need-loop-holds Inv-loop μ-loop
-loop-holds c = subst (λ (t : List ℕ). Turning (c .before .before .args .live) (c .before .before .args .down .now) t (c .before .before .args .live)) (sym (c .blank .ensures)) (turning-start (c .before .before .args .live) (c .before .before .args .down .now))
+loop-holds c = subst (λ (t : List ℕ). Turning (c .args .live) (c .args .down .now) t (c .args .live)) (sym (c .pre)) (turning-start (c .args .live) (c .args .down .now))
 
 lowest-requires : tie.Need-lowest-requires Inv-loop μ-loop
 lowest-requires c κs = search needs
@@ -60,7 +57,6 @@ turn-spec =
     (tie.spec
     Inv-loop
     μ-loop
-    blank-requires
     loop-holds
     lowest-requires
     enum-known-x
