@@ -52,7 +52,7 @@ extern "C" {
 /* ---- commands */
 
 /* Bit r of `live`: role r is live. Bit j of i[s] (of a[s]): senior s has junior j in the I table (in the A table). The
- * founding board is { 1 }: role 0 is live, and there is no edge. */
+ * founding board is { .live = 1 }: role 0 is live, and there is no edge. */
 struct board {
     uint64_t live, i[BOARD_ROLES], a[BOARD_ROLES];
 };
