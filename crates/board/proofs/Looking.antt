@@ -6,7 +6,7 @@ use mathlib.Core.List.{List}
 use Prim.Native.Nat.{ℕ}
 use Rattle.hierarchy.specs.Tables.{Tables, Live, Shaped}
 use Rattle.hierarchy.specs.Words.{Joined, Loops, Managed, Sound}
-use Rattle.hierarchy.specs.Views.{AreViews, SettledViews, ManagedBy}
+use Rattle.hierarchy.specs.Views.{AreViews, Settled, Turned, ManagedBy}
 use Rattle.hierarchy.proofs.Decide.{loops-dec}
 use Rattle.hierarchy.proofs.Order.{order-loopless}
 use Rattle.hierarchy.proofs.ViewLaws.{admin-by, in-order-is, settled-views}
@@ -43,24 +43,24 @@ disordered-loops shaped joined =
 -- ---- a look
 
 -- where all else is well, order and administrators are left
-pub look-is : {t : Tables} {down up : List ℕ} {settled : ℕ} {m : Bool} → Shaped t → Live t 0 → Joined t → SettledViews t settled down up
-    → settled ≡ t .live → (m ≡ true) ↔ ManagedBy (t .live) down up → Seen t m down up
-look-is shaped root joined w e managed = record {
+pub look-is : {t : Tables} {down up : List ℕ} {settled : ℕ} {m : Bool} → Shaped t → Live t 0 → Joined t → Settled t settled down
+    → settled ≡ t .live → Turned (t .live) down up → (m ≡ true) ↔ ManagedBy (t .live) down up → Seen t m down up
+look-is shaped root joined w e u managed = record {
   sound-is = (
     λ h. record {
       shaped = shaped;
       joined = joined;
       loopless = order-loopless (shaped .live-fits) joined .0 (in-order-is w .0 e);
       root = root;
-      managed = managed-by (settled-views w e) .0 (managed .0 h);
+      managed = managed-by (settled-views w e u) .0 (managed .0 h);
     },
-    λ s. managed .1 (managed-by (settled-views w e) .1 (s .managed)),
+    λ s. managed .1 (managed-by (settled-views w e u) .1 (s .managed)),
   );
-  seen = λ _. settled-views w e;
+  seen = λ _. settled-views w e u;
 }
 
 -- and a board that isn't in order isn't sound
-pub no-order : {t : Tables} {down up : List ℕ} {settled : ℕ} → SettledViews t settled down up → (settled ≡ t .live → ⊥) → Sound t → ⊥
+pub no-order : {t : Tables} {down : List ℕ} {settled : ℕ} → Settled t settled down → (settled ≡ t .live → ⊥) → Sound t → ⊥
 no-order w n s = n (in-order-is w .1 (order-loopless (s .shaped .live-fits) (s .joined) .1 (s .loopless)))
 
 -- a look that finds nothing sound

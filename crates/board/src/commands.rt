@@ -20,7 +20,8 @@ use crate::looks::look;
 use hierarchy::scopes::administrators;
 use hierarchy::scopes::managed;
 use hierarchy::scopes::scope;
-use hierarchy::views::settled_views;
+use hierarchy::views::fill_down;
+use hierarchy::views::fill_up;
 use sets::has;
 use sets::minus;
 use sets::single;
@@ -193,9 +194,10 @@ fn refused_after<'t>(live: u64, i: &'t [u64; 64], a: &'t [u64; 64], c: Command) 
 {
     let mut down = [0u64; 64];
     let mut up = [0u64; 64];
-    if settled_views(live, i, a, &mut down, &mut up) != live {
+    if fill_down(live, i, a, &mut down) != live {
         return 7;
     }
+    fill_up(live, &down, &mut up);
     if outside(&down, &up, c) {
         return 8;
     }

@@ -3,7 +3,8 @@ ghost use Rattle.hierarchy.specs.Tables.{tables, IsTable};
 ghost use Rattle.board.specs.Looks.{Seen};
 use hierarchy::entries::joined;
 use hierarchy::scopes::managed;
-use hierarchy::views::settled_views;
+use hierarchy::views::fill_down;
+use hierarchy::views::fill_up;
 use sets::has;
 
 // Whether the board of these tables is sound; if so, its views are in `down` and `up`.
@@ -23,8 +24,9 @@ pub(crate) fn look<'t>(
     if !joined(live, i, a) {
         return false;
     }
-    if settled_views(live, i, a, down, up) != live {
+    if fill_down(live, i, a, down) != live {
         return false;
     }
+    fill_up(live, down, up);
     managed(live, down, up)
 }

@@ -13,7 +13,7 @@ use Rattle.sets.proofs.Digits.{bit-out}
 use Rattle.hierarchy.specs.Tables.{Tables, tables, row, Shaped, kindOf, kind}
 use Rattle.hierarchy.specs.Words.{Joined, Loops, Managed}
 use Rattle.hierarchy.specs.First.{First}
-use Rattle.hierarchy.specs.Views.{SettledViews, ManagedBy}
+use Rattle.hierarchy.specs.Views.{Settled, Turned, ManagedBy}
 use Rattle.hierarchy.proofs.FirstLaws.{hit, pass, none}
 use Rattle.hierarchy.proofs.Order.{order-loopless}
 use Rattle.hierarchy.proofs.ViewLaws.{in-order-is, settled-views}
@@ -138,9 +138,9 @@ module _ {f : List ℕ} {b : Board} (number : ℕ) (frame : BadFrame f → ⊥) 
       loopless n w = n (subst (λ (c : Board). Loops (tablesOf c)) (one-board (w .1) is) (w .2))
 
 -- where neither frame nor record has a fault, it is the board that may be in trouble
-module _ {f : List ℕ} {live n m settled : ℕ} {i a down up : List ℕ}
+module _ {f : List ℕ} {live n m settled : ℕ} {i a down : List ℕ}
     (frame : GoodFrame f n m) (roles : GoodRoles f n live) (edges : GoodEdges f n m live i a)
-    (w : SettledViews (tables live i a) settled down up) where
+    (w : Settled (tables live i a) settled down) where
   shaped : Shaped (tables live i a)
   shaped = is-file frame roles edges .shaped
 
@@ -150,30 +150,30 @@ module _ {f : List ℕ} {live n m settled : ℕ} {i a down up : List ℕ}
   trouble : (number : ℕ) → Trouble number → First (refusals f) number
   trouble number t = numbered number (frame .faultless) (faultless frame roles edges) (is-file frame roles edges) t
 
-  pub opened-7 : {number l : ℕ} → (settled ≡ live → ⊥) → number ≡ 7 → Opening f number l i a down up
+  pub opened-7 : {number l : ℕ} {up : List ℕ} → (settled ≡ live → ⊥) → number ≡ 7 → Opening f number l i a down up
   opened-7 e z = record {
     numbered = subst (First (refusals f)) (sym z) (trouble 7 (hit _ _ _ (disordered-loops shaped (joined frame roles edges) .0 (λ o. e (in-order-is w .1 o)))));
     done = λ k. absurd (omega arith);
   }
 
-  module _ (e : settled ≡ live) {managed : Bool} (is : (managed ≡ true) ↔ ManagedBy live down up) where
+  module _ {up : List ℕ} (e : settled ≡ live) (u : Turned live down up) {managed : Bool} (is : (managed ≡ true) ↔ ManagedBy live down up) where
     loopless : Loops (tables live i a) → ⊥
     loopless = order-loopless (roles .fits) (joined frame roles edges) .0 (in-order-is w .0 e)
 
     pub opened-9 : {number l : ℕ} → managed ≡ false → number ≡ 9 → Opening f number l i a down up
     opened-9 h z = record {
-      numbered = subst (First (refusals f)) (sym z) (trouble 9 (pass _ _ _ _ loopless (hit _ _ _ (λ k. fails is h (managed-by (settled-views w e) .1 k)))));
+      numbered = subst (First (refusals f)) (sym z) (trouble 9 (pass _ _ _ _ loopless (hit _ _ _ (λ k. fails is h (managed-by (settled-views w e u) .1 k)))));
       done = λ k. absurd (omega arith);
     }
 
     pub opened : managed ≡ true → Opening f 0 live i a down up
-    opened h = let all = managed-by (settled-views w e) .0 (holds is h) in record {
+    opened h = let all = managed-by (settled-views w e u) .0 (holds is h) in record {
       numbered = trouble 0 (pass _ _ _ _ loopless (pass _ _ _ _ (λ k. k all) none));
       done = λ _. (
         is-file frame roles edges,
         record {
           sound = record { shaped = shaped; joined = joined frame roles edges; loopless = loopless; root = roles .root; managed = all };
-          seen = settled-views w e;
+          seen = settled-views w e u;
         },
       );
     }

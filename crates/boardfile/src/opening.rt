@@ -7,7 +7,8 @@ use crate::reader::Roles;
 use crate::reader::edges;
 use crate::reader::listed;
 use hierarchy::scopes::managed;
-use hierarchy::views::settled_views;
+use hierarchy::views::fill_down;
+use hierarchy::views::fill_up;
 
 // The number, and the live roles of the board; its tables and views go to what is lent.
 pub(crate) struct Opened {
@@ -46,9 +47,10 @@ pub(crate) fn open(
     if !edges(file, roles, records, live, i, a) {
         return refused(11);
     }
-    if settled_views(live, i, a, down, up) != live {
+    if fill_down(live, i, a, down) != live {
         return refused(7);
     }
+    fill_up(live, down, up);
     if !managed(live, down, up) {
         return refused(9);
     }

@@ -11,7 +11,8 @@ use board::effects::after;
 use board::questions;
 use board::questions::Manager;
 use hierarchy::scopes::managed;
-use hierarchy::views::settled_views;
+use hierarchy::views::fill_down;
+use hierarchy::views::fill_up;
 use sets::has;
 
 fn text(s: &[u8]) {
@@ -219,10 +220,11 @@ pub(crate) fn trouble(name: &[u8], b: Board, c: Command) {
     let next = after(b, c);
     let mut down = [0u64; 64];
     let mut up = [0u64; 64];
-    if settled_views(next.live, &next.i, &next.a, &mut down, &mut up) != next.live {
+    if fill_down(next.live, &next.i, &next.a, &mut down) != next.live {
         text(b"a role that reaches itself\n");
         return;
     }
+    fill_up(next.live, &down, &mut up);
     if !managed(next.live, &down, &up) {
         text(b"a role without an administrator\n");
         return;

@@ -13,7 +13,8 @@ use Rattle.sets.proofs.Digits.{bit-zero}
 use Rattle.sets.proofs.Laws.{same-eq, same-self}
 use Rattle.sets.proofs.Members.{Taken, taken-part, taken-cases}
 use Rattle.hierarchy.specs.Tables.{row}
-use Rattle.hierarchy.specs.Engine.{IsUp, Marked}
+use Rattle.hierarchy.specs.Views.{Turned}
+use Rattle.hierarchy.specs.Engine.{Marked}
 
 -- a row of the blank table has no member
 pub blank-row : (n x : ℕ) → row (replicate n 0) x ≡ 0
@@ -116,11 +117,14 @@ turning-turn {live} {rest} {x} {rest′} {down} {up} {up′} turn inv mark = rec
         ∙ sym (ap (λ (p : Bool). (p && not (bit rest′ z)) && bit (row down z) y) (inv .part z in-rest)
         ∙ ap (λ (p : Bool). not p && bit (row down z) y) (turn .rest-is z ∙ ap (λ (q : Bool). bit rest z && not q) e ∙ and-false (bit rest z)))
 
-pub turning-end : {live rest : ℕ} {down up : List ℕ} → NoRole rest → Turning live down up rest → IsUp live down up
-turning-end {live} {rest} {down} {up} empty inv x y = (
-  λ e. let p = sym (members) ∙ e in (and-left (bit live x) (bit (row down x) y) p, and-right (bit live x) (bit (row down x) y) p),
-  λ m. members ∙ and-both (bit live x) (bit (row down x) y) (m .0) (m .1),
-)
+pub turning-end : {live rest : ℕ} {down up : List ℕ} → NoRole rest → Turning live down up rest → Turned live down up
+turning-end {live} {rest} {down} {up} empty inv = record {
+  up-is = λ x y. (
+    λ e. let p = sym (members x y) ∙ e in (and-left (bit live x) (bit (row down x) y) p, and-right (bit live x) (bit (row down x) y) p),
+    λ m. members x y ∙ and-both (bit live x) (bit (row down x) y) (m .0) (m .1),
+  );
+  up-rows = inv .rows;
+}
   where
-    members : bit (row up y) x ≡ (bit live x && bit (row down x) y)
-    members = inv .members x y ∙ ap (λ (p : Bool). p && bit (row down x) y) (ap (λ (q : Bool). bit live x && not q) (empty .none x) ∙ and-true (bit live x))
+    members : (x y : ℕ) → bit (row up y) x ≡ (bit live x && bit (row down x) y)
+    members x y = inv .members x y ∙ ap (λ (p : Bool). p && bit (row down x) y) (ap (λ (q : Bool). bit live x && not q) (empty .none x) ∙ and-true (bit live x))

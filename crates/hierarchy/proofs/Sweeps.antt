@@ -17,8 +17,8 @@ use Rattle.sets.proofs.Laws.{ext, bit-lt, same-eq, same-self, part-whole, minus
 use Rattle.sets.proofs.Members.{Drawn, drawn-kept, Taken, taken-part, taken-kept}
 use Rattle.hierarchy.specs.Tables.{Tables, tables, row, kind}
 use Rattle.hierarchy.specs.Words.{Derives, Way, Way.edge, Way.then, Reaches, Chain, Chain.stop, Chain.step}
-use Rattle.hierarchy.specs.Views.{Settles, Settles.settle, SettledViews}
-use Rattle.hierarchy.specs.Engine.{Entry, IsOf, OneOf, InRows, Spread, ByI, Settled, RightRows, Right, Founded, Founded.founded, Waits, Swept, Ordered, IsUp}
+use Rattle.hierarchy.specs.Views.{Settles, Settles.settle, Settled}
+use Rattle.hierarchy.specs.Engine.{Entry, IsOf, OneOf, InRows, Spread, ByI, RowSettled, RightRows, Right, Founded, Founded.founded, Waits, Swept, Ordered}
 use Rattle.hierarchy.proofs.Derive.{edge-entry, derives↔descends}
 use Rattle.hierarchy.proofs.Rows.{row-set, blank-row}
 use Rattle.hierarchy.proofs.Managing.{a-member}
@@ -68,7 +68,7 @@ outside s t f n =
 -- ---- one role is settled in one table
 
 pub settled-is : {table reach : List ℕ} {x own : ℕ} (below r : ℕ) → x < 64 → length reach ≡ 64 → ((z : ℕ) → (z isIn below) ↔ InRows reach (row table x) z)
-    → ((z : ℕ) → bit r z ≡ (bit own z || bit below z)) → Settled table reach x own r (set reach x r)
+    → ((z : ℕ) → bit r z ≡ (bit own z || bit below z)) → RowSettled table reach x own r (set reach x r)
 settled-is {table} {reach} {x} {own} below r l rows below-is r-is = record {
   rows = length-set reach x r ∙ rows;
   is = row-set reach x r x in-range (λ (w : ℕ). w ≡ r) (λ _. refl) (λ n. absurd (n refl));
@@ -102,14 +102,14 @@ module _ {table : List ℕ} {Own : ℕ → ℕ → Type 0} where
 
   -- its row is right where its juniors' rows are
   pub settled-right : {reach reach′ : List ℕ} {done x own r : ℕ} → RightRows table Own reach done → row table x areIn done → ((z : ℕ) → (z isIn own) ↔ Own x z)
-      → Settled table reach x own r reach′ → (z : ℕ) → (z isIn r) ↔ Spread table Own x z
+      → RowSettled table reach x own r reach′ → (z : ℕ) → (z isIn r) ↔ Spread table Own x z
   settled-right inv below own-is set z = (
     λ e. ⊎-elim (λ d. spread-here (own-is z .0 d)) (λ d. spread-on (d .member) (inv .right (d .of) (below (d .of) (d .member)) z .0 (d .on))) (set .here z .0 e),
     λ s. set .here z .1 (⊎-map (own-is z .1) (λ w. record { of = w .0; member = w .1; on = inv .right (w .0) (below (w .0) (w .1)) z .1 (w .2) }) (spread-cases s)),
   )
 
   -- and x is done too
-  pub rows-more : {reach reach′ : List ℕ} {done x own r : ℕ} (done′ : ℕ) → RightRows table Own reach done → Settled table reach x own r reach′
+  pub rows-more : {reach reach′ : List ℕ} {done x own r : ℕ} (done′ : ℕ) → RightRows table Own reach done → RowSettled table reach x own r reach′
       → ((z : ℕ) → (z isIn r) ↔ Spread table Own x z) → x < 64 → ((y : ℕ) → bit done′ y ≡ (bit done y || same? x y)) → RightRows table Own reach′ done′
   rows-more {reach} {reach′} {done} {x} done′ inv set here l done-is = record {
     rows = set .rows;
@@ -173,7 +173,7 @@ sweep-end empty inv = record {
 module _ {i a : List ℕ} {done left now-done rest x rest′ : ℕ} {by-i down : List ℕ} (both : ℕ) (turn : Drawn rest x rest′) (inv : Sweeping i a done left by-i down now-done rest)
     (both-is : (y : ℕ) → bit both y ≡ (bit (row i x) y || bit (row a x) y)) where
   -- the juniors of x are done, and x is settled
-  pub sweep-in : {by-i′ down′ : List ℕ} (one r s now-done′ : ℕ) → both areIn now-done → ((z : ℕ) → bit one z ≡ same? x z) → Settled i by-i x one r by-i′ → Settled a down x r s down′
+  pub sweep-in : {by-i′ down′ : List ℕ} (one r s now-done′ : ℕ) → both areIn now-done → ((z : ℕ) → bit one z ≡ same? x z) → RowSettled i by-i x one r by-i′ → RowSettled a down x r s down′
       → ((y : ℕ) → bit now-done′ y ≡ (bit now-done y || same? x y)) → Sweeping i a done left by-i′ down′ now-done′ rest′
   sweep-in {by-i′} {down′} one r s now-done′ below one-is i-set a-set done-is = record {
     right = record {
@@ -296,24 +296,9 @@ module _ {live : ℕ} {i a by-i down : List ℕ} (done : ℕ) (ord : Ordered liv
       ))
       (true-or-false (bit done x))
 
-  settled-by : {up : List ℕ} → length up ≡ 64 → ((x y : ℕ) → (x isIn row up y) ↔ ((done ≡ live) × Derives t x y)) → SettledViews t done down up
-  settled-by rows up-is = record {
+  pub filled-down : Settled t done down
+  filled-down = record {
     which = λ x. (λ m. done-settles m (ord .right .ends x m), settles-done x);
     down-is = down-done;
-    up-is = up-is;
     down-rows = ord .right .a-rows .rows;
-    up-rows = rows;
   }
-
-  -- all of them, and down is turned round; or not all, and up is blank
-  pub settled-all : {up : List ℕ} → done ≡ live → length up ≡ 64 → IsUp live down up → SettledViews t done down up
-  settled-all all rows turned = settled-by rows (λ x y. (
-    λ e. (all, down-done x y .0 (turned x y .0 e .1) .1),
-    λ d. turned x y .1 (d .1 .from, down-done x y .1 (subst (λ (s : ℕ). x isIn s) (sym all) (d .1 .from), d .1)),
-  ))
-
-  pub settled-some : {up : List ℕ} → (done ≡ live → ⊥) → up ≡ replicate 64 0 → SettledViews t done down up
-  settled-some n e = settled-by (ap length e) (λ x y. (
-    λ m. absurd (false-no (ap (λ (w : List ℕ). bit (row w y) x) e ∙ ap (λ (w : ℕ). bit w x) (blank-row 64 y) ∙ bit-zero x) m),
-    λ d. absurd (n (d .0)),
-  ))

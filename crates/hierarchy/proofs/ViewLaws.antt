@@ -17,7 +17,7 @@ use Rattle.hierarchy.specs.declared.scopes.Climbed.the-variants.{Steps, 
 use Rattle.hierarchy.specs.Tables.{Tables, row, Live}
 use Rattle.hierarchy.specs.Words.{Derives, Reaches, Scope, Administrator, LineManager, Loops, Sound, Climb}
 use Rattle.hierarchy.specs.Words.{Climb.top}
-use Rattle.hierarchy.specs.Views.{AreViews, InOrder, SettledViews, ScopeBy, AdminBy, ManagerBy, Managing, ClimbBy, Climbing}
+use Rattle.hierarchy.specs.Views.{AreViews, InOrder, Settled, Turned, ScopeBy, AdminBy, ManagerBy, Managing, ClimbBy, Climbing}
 use Rattle.hierarchy.specs.Views.{ClimbBy.arrived, ClimbBy.further}
 use Rattle.hierarchy.proofs.Admin.{admin-reaches, manager-unique}
 use Rattle.hierarchy.proofs.ClimbLaws.{climbs, no-senior, climb-short}
@@ -125,35 +125,38 @@ views-unique v w = (
   table-ext (v .up-rows ∙ sym (w .up-rows)) (λ y x. Iff·trans (v .up-is x y) (Iff·symm (w .up-is x y))),
 )
 
--- and so have one set of roles that settle, with the views as far as they go.
-pub settled-unique : {t : Tables} {s s′ : ℕ} {d u d′ u′ : List ℕ} → SettledViews t s d u → SettledViews t s′ d′ u′ → (s ≡ s′) × (d ≡ d′) × (u ≡ u′)
+-- one set of roles that settle, with what these derive,
+pub settled-unique : {t : Tables} {s s′ : ℕ} {d d′ : List ℕ} → Settled t s d → Settled t s′ d′ → (s ≡ s′) × (d ≡ d′)
 settled-unique {t} {s} {s′} v w = (
   same,
-  table-ext (v .down-rows ∙ sym (w .down-rows)) (λ x y. Iff·trans (v .down-is x y) (Iff·trans (down-same x y) (Iff·symm (w .down-is x y)))),
-  table-ext (v .up-rows ∙ sym (w .up-rows)) (λ y x. Iff·trans (v .up-is x y) (Iff·trans (up-same x y) (Iff·symm (w .up-is x y)))),
+  table-ext (v .down-rows ∙ sym (w .down-rows)) (λ x y. Iff·trans (v .down-is x y) (Iff·trans (alike x y) (Iff·symm (w .down-is x y)))),
 )
   where
     same : s ≡ s′
     same = same-members s s′ (λ x. Iff·trans (v .which x) (Iff·symm (w .which x)))
 
-    down-same : (x y : ℕ) → ((x isIn s) × Derives t x y) ↔ ((x isIn s′) × Derives t x y)
-    down-same x y = (λ m. (subst (λ (k : ℕ). x isIn k) same (m .0), m .1), λ m. (subst (λ (k : ℕ). x isIn k) (sym same) (m .0), m .1))
+    alike : (x y : ℕ) → ((x isIn s) × Derives t x y) ↔ ((x isIn s′) × Derives t x y)
+    alike x y = (λ m. (subst (λ (k : ℕ). x isIn k) same (m .0), m .1), λ m. (subst (λ (k : ℕ). x isIn k) (sym same) (m .0), m .1))
 
-    up-same : (x y : ℕ) → ((s ≡ t .live) × Derives t x y) ↔ ((s′ ≡ t .live) × Derives t x y)
-    up-same x y = (λ m. (sym same ∙ m .0, m .1), λ m. (same ∙ m .0, m .1))
+-- and a table is turned round in one way.
+pub turned-unique : {live : ℕ} {down u u′ : List ℕ} → Turned live down u → Turned live down u′ → u ≡ u′
+turned-unique v w = table-ext (v .up-rows ∙ sym (w .up-rows)) (λ y x. Iff·trans (v .up-is x y) (Iff·symm (w .up-is x y)))
 
--- Where all live roles settle they are in order, and what there is are the views.
-module _ {t : Tables} {s : ℕ} {down up : List ℕ} (v : SettledViews t s down up) where
+-- Where all live roles settle they are in order, and the two tables are the views.
+module _ {t : Tables} {s : ℕ} {down : List ℕ} (v : Settled t s down) where
   pub in-order-is : (s ≡ t .live) ↔ InOrder t
   in-order-is = (
     λ e x l. v .which x .0 (subst (λ (k : ℕ). x isIn k) (sym e) l),
     λ o. same-members s (t .live) (λ x. (λ m. settles-live (v .which x .0 m), λ l. v .which x .1 (o x l))),
   )
 
-  pub settled-views : s ≡ t .live → AreViews t down up
-  settled-views e = record {
+  pub settled-views : {up : List ℕ} → s ≡ t .live → Turned (t .live) down up → AreViews t down up
+  settled-views e w = record {
     down-rows = v .down-rows;
-    up-rows = v .up-rows;
-    down-is = λ x y. (λ m. v .down-is x y .0 m .1, λ d. v .down-is x y .1 (subst (λ (k : ℕ). x isIn k) (sym e) (d .from), d));
-    up-is = λ x y. (λ m. v .up-is x y .0 m .1, λ d. v .up-is x y .1 (e, d));
+    up-rows = w .up-rows;
+    down-is = is;
+    up-is = λ x y. (λ m. is x y .0 (w .up-is x y .0 m .1), λ d. w .up-is x y .1 (d .from, is x y .1 d));
   }
+    where
+      is : (x y : ℕ) → (y isIn row down x) ↔ Derives t x y
+      is x y = (λ m. v .down-is x y .0 m .1, λ d. v .down-is x y .1 (subst (λ (k : ℕ). x isIn k) (sym e) (d .from), d))

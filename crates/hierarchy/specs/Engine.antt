@@ -32,7 +32,7 @@ abbrev pub ByI : List ℕ → ℕ → ℕ → Type 0
 ByI i = Spread i (λ x z. x ≡ z)
 
 -- r is now the row of x: what it has as its own, and the rows of its juniors; the others are as they were
-pub record Settled (table old : List ℕ) (x own r : ℕ) (reach : List ℕ) : Type 0 where
+pub record RowSettled (table old : List ℕ) (x own r : ℕ) (reach : List ℕ) : Type 0 where
   pub rows : length reach ≡ 64
   pub is : row reach x ≡ r
   pub here : (z : ℕ) → (z isIn r) ↔ ((z isIn own) ⊎ InRows old (row table x) z)
@@ -80,10 +80,6 @@ pub record Ordered (live : ℕ) (i a by-i down : List ℕ) (r : ℕ) : Type 0 wh
   pub right : Right i a by-i down r
   pub part : r areIn live
   pub waiting : (x : ℕ) → x isIn live → (x isIn r) ⊎ Waits i a r x
-
--- up is the part of down that starts at live roles, turned round
-abbrev pub IsUp : ℕ → List ℕ → List ℕ → Type 0
-IsUp live down up = (x y : ℕ) → (x isIn row up y) ↔ ((x isIn live) × (y isIn row down x))
 
 -- x has gone into the row of each role of s
 pub record Marked (up : List ℕ) (s x : ℕ) (marked : List ℕ) : Type 0 where

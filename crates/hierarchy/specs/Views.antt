@@ -35,13 +35,15 @@ pub data Settles (t : Tables) : ℕ → Type 0 where
 abbrev pub InOrder : Tables → Type 0
 InOrder t = (x : ℕ) → Live t x → Settles t x
 
--- Which roles settle, and what each of these derives, in `down`; `up` is worked out only where all live roles settle, and both are the
--- views of t then.
-pub record SettledViews (t : Tables) (settled : ℕ) (down up : List ℕ) : Type 0 where
+-- Which roles settle; and each row of down is what its role derives, where that settles, else blank.
+pub record Settled (t : Tables) (settled : ℕ) (down : List ℕ) : Type 0 where
   pub which : (x : ℕ) → (x isIn settled) ↔ Settles t x
   pub down-is : (x y : ℕ) → (y isIn row down x) ↔ ((x isIn settled) × Derives t x y)
-  pub up-is : (x y : ℕ) → (x isIn row up y) ↔ ((settled ≡ t .live) × Derives t x y)
   pub down-rows : length down ≡ 64
+
+-- up is down turned round: whose row has y, of the roles of live
+pub record Turned (live : ℕ) (down up : List ℕ) : Type 0 where
+  pub up-is : (x y : ℕ) → (x isIn row up y) ↔ ((x isIn live) × (y isIn row down x))
   pub up-rows : length up ≡ 64
 
 -- r is in the scope of a

@@ -5,8 +5,8 @@ ghost use Prim.Native.Nat.{ℕ, _<_};
 ghost use lib.ListN.{length, replicate};
 ghost use Rattle.sets.specs.Sets.{_isIn_};
 ghost use Rattle.hierarchy.specs.Tables.{tables};
-ghost use Rattle.hierarchy.specs.Views.{SettledViews};
-ghost use Rattle.hierarchy.specs.Engine.{InRows, OneOf, Settled, Right, Swept, Ordered, IsUp, Marked};
+ghost use Rattle.hierarchy.specs.Views.{Settled, Turned};
+ghost use Rattle.hierarchy.specs.Engine.{InRows, OneOf, RowSettled, Right, Swept, Ordered, Marked};
 use sets::Pick;
 use sets::but_lowest;
 use sets::highest;
@@ -43,7 +43,7 @@ fn blank(table: &mut [u64; 64])
 // The row of role x is what it has of its own and the rows of its juniors in the table.
 fn settle(table: &[u64; 64], reach: &mut [u64; 64], x: usize, own: u64) -> u64
     requires { ⌜ (x < 64) × (length (now reach) ≡ 64) ⌝ }
-    ensures { λ r. ⌜ Settled (now (table .entry)) (now (reach .entry)) x own r (now (reach .exit)) ⌝ }
+    ensures { λ r. ⌜ RowSettled (now (table .entry)) (now (reach .entry)) x own r (now (reach .exit)) ⌝ }
 {
     let below = rows(reach, table[x]);
     let row = union(own, below);
@@ -132,11 +132,21 @@ fn mark(up: &mut [u64; 64], s: u64, x: usize)
     }
 }
 
-// What derives each role: `down` turned round, by its members, into a blank table.
-fn turn(live: u64, down: &[u64; 64], up: &mut [u64; 64])
-    requires { ⌜ now up ≡ replicate 64 0 ⌝ }
-    ensures { λ _. ⌜ (length (now (up .exit)) ≡ 64) × IsUp live (now (down .entry)) (now (up .exit)) ⌝ }
+// Settles the roles of a board from the juniors up, and gives the set of those that settle: all live roles, where there is no loop and
+// every junior lives. Row x of `down` becomes the set of what x derives, where x settles, else blank.
+pub fn fill_down<'t>(live: u64, i: &'t [u64; 64], a: &'t [u64; 64], down: &mut [u64; 64]) -> u64
+    ensures { λ r. ⌜ Settled (tables live (now (i .entry)) (now (a .entry))) r (now (down .exit)) ⌝ }
 {
+    let mut by_i = [0u64; 64];
+    blank(down);
+    order(live, i, a, &mut by_i, down)
+}
+
+// Row y of `up` becomes the set of the live roles whose row in `down` has y: what derives y, where all live roles settle.
+pub fn fill_up(live: u64, down: &[u64; 64], up: &mut [u64; 64])
+    ensures { λ _. ⌜ Turned live (now (down .entry)) (now (up .exit)) ⌝ }
+{
+    blank(up);
     let mut rest = live;
     loop {
         let Pick::Role(x) = lowest(rest) else {
@@ -145,26 +155,4 @@ fn turn(live: u64, down: &[u64; 64], up: &mut [u64; 64])
         mark(up, down[x], x);
         rest = but_lowest(rest);
     }
-}
-
-// Settles the roles of a board from the juniors up, and gives the set of those that settle. Row x of `down` becomes the set of what x
-// derives, for each of these, and is blank for the others. Where all live roles settle, row y of `up` becomes the set of what derives y, and
-// the two are the board's views; else `up` becomes blank.
-pub fn settled_views<'t>(
-    live: u64,
-    i: &'t [u64; 64],
-    a: &'t [u64; 64],
-    down: &mut [u64; 64],
-    up: &mut [u64; 64],
-) -> u64
-    ensures { λ r. ⌜ SettledViews (tables live (now (i .entry)) (now (a .entry))) r (now (down .exit)) (now (up .exit)) ⌝ }
-{
-    let mut by_i = [0u64; 64];
-    blank(down);
-    blank(up);
-    let settled = order(live, i, a, &mut by_i, down);
-    if settled == live {
-        turn(live, down, up);
-    }
-    settled
 }

@@ -11,36 +11,40 @@ use borrow.Author.Needs.{needs}
 use Rattle.board.proofs.commands.refused_after.Statement.{statement}
 use Rattle.board.proofs.commands.refused_after.Tie as tie
 
-settled-views-requires : tie.Need-settled-views-requires
-settled-views-requires c κs = search needs
+fill-down-requires : tie.Need-fill-down-requires
+fill-down-requires c κs = search needs
 
-outside-at : (c : tie.After-outside) → (c .outside .result ≡ true) ↔ Outside (boardOf (c .before .before .before .before .before .before .before .args .live) (c .before .before .before .before .before .before .before .args .i .now) (c .before .before .before .before .before .before .before .args .a .now)) (c .before .before .before .before .before .before .before .args .c)
-outside-at c = Iff·trans (c .outside .ensures) (outside-row _ _ (settled-views (c .before .before .before .before .settled-views .ensures) (c .before .before .before .if1 .left)))
+outside-at : (c : tie.After-outside) → (c .outside .result ≡ true) ↔ Outside (boardOf (c .before .before .before .before .before .before .before .before .before .args .live) (c .before .before .before .before .before .before .before .before .before .args .i .now) (c .before .before .before .before .before .before .before .before .before .args .a .now)) (c .before .before .before .before .before .before .before .before .before .args .c)
+outside-at c = Iff·trans (c .outside .ensures) (outside-row _ _ (settled-views (c .before .before .before .before .before .before .before .fill-down .ensures) (c .before .before .before .before .before .before .if1 .left) (c .before .before .before .fill-up .ensures)))
 
 returns : tie.Need-returns
-returns c = hit _ _ _ (λ o. c .if1 .taken (in-order-is (c .before .settled-views .ensures) .1 o))
+returns c = hit _ _ _ (λ o. c .if1 .taken (in-order-is (c .before .fill-down .ensures) .1 o))
+
+fill-up-requires : tie.Need-fill-up-requires
+fill-up-requires c κs = search needs
 
 outside-requires : tie.Need-outside-requires
 outside-requires c κs = search needs
 
 returns-2 : tie.Need-returns-2
-returns-2 c = pass _ _ _ _ (λ n. n (in-order-is (c .before .before .before .before .before .settled-views .ensures) .0 (c .before .before .before .before .if1 .left))) (hit _ _ _ (holds (outside-at (c .before)) (c .if2 .taken)))
+returns-2 c = pass _ _ _ _ (λ n. n (in-order-is (c .before .before .before .before .before .before .before .before .fill-down .ensures) .0 (c .before .before .before .before .before .before .before .if1 .left))) (hit _ _ _ (holds (outside-at (c .before)) (c .if2 .taken)))
 
 managed-requires : tie.Need-managed-requires
 managed-requires c κs = search needs
 
 returns-3 : tie.Need-returns-3
-returns-3 c = pass _ _ _ _ (λ n. n (in-order-is (c .before .before .before .before .before .before .before .before .before .settled-views .ensures) .0 (c .before .before .before .before .before .before .before .before .if1 .left))) (pass _ _ _ _ (fails (outside-at (c .before .before .before .before .before)) (c .before .before .before .before .if2 .left)) (pass _ _ _ _ (λ n. n (managed-by (settled-views (c .before .before .before .before .before .before .before .before .before .settled-views .ensures) (c .before .before .before .before .before .before .before .before .if1 .left)) .0 (holds (c .before .managed .ensures) (c .if3 .taken)))) none))
+returns-3 c = pass _ _ _ _ (λ n. n (in-order-is (c .before .before .before .before .before .before .before .before .before .before .before .before .fill-down .ensures) .0 (c .before .before .before .before .before .before .before .before .before .before .before .if1 .left))) (pass _ _ _ _ (fails (outside-at (c .before .before .before .before .before)) (c .before .before .before .before .if2 .left)) (pass _ _ _ _ (λ n. n (managed-by (settled-views (c .before .before .before .before .before .before .before .before .before .before .before .before .fill-down .ensures) (c .before .before .before .before .before .before .before .before .before .before .before .if1 .left) (c .before .before .before .before .before .before .before .before .fill-up .ensures)) .0 (holds (c .before .managed .ensures) (c .if3 .taken)))) none))
 
 returns-4 : tie.Need-returns-4
-returns-4 c = pass _ _ _ _ (λ n. n (in-order-is (c .before .before .before .before .before .before .before .before .before .settled-views .ensures) .0 (c .before .before .before .before .before .before .before .before .if1 .left))) (pass _ _ _ _ (fails (outside-at (c .before .before .before .before .before)) (c .before .before .before .before .if2 .left)) (hit _ _ _ (λ m. fails (c .before .managed .ensures) (c .if3 .left) (managed-by (settled-views (c .before .before .before .before .before .before .before .before .before .settled-views .ensures) (c .before .before .before .before .before .before .before .before .if1 .left)) .1 m))))
+returns-4 c = pass _ _ _ _ (λ n. n (in-order-is (c .before .before .before .before .before .before .before .before .before .before .before .before .fill-down .ensures) .0 (c .before .before .before .before .before .before .before .before .before .before .before .if1 .left))) (pass _ _ _ _ (fails (outside-at (c .before .before .before .before .before)) (c .before .before .before .before .if2 .left)) (hit _ _ _ (λ m. fails (c .before .managed .ensures) (c .if3 .left) (managed-by (settled-views (c .before .before .before .before .before .before .before .before .before .before .before .before .fill-down .ensures) (c .before .before .before .before .before .before .before .before .before .before .before .if1 .left) (c .before .before .before .before .before .before .before .before .fill-up .ensures)) .1 m))))
 
 pub refused-after-spec : {M : Type 1} → statement M
 refused-after-spec =
     tie.close
     (tie.spec
-    settled-views-requires
+    fill-down-requires
     returns
+    fill-up-requires
     outside-requires
     returns-2
     managed-requires

@@ -22,17 +22,20 @@ joined-requires c κs = search needs
 returns-2 : tie.Need-returns-2
 returns-2 c = unseen (λ s. fails (c .before .joined .ensures) (not-true _ (c .if2 .taken)) (s .joined))
 
-settled-views-requires : tie.Need-settled-views-requires
-settled-views-requires c κs = search needs
+fill-down-requires : tie.Need-fill-down-requires
+fill-down-requires c κs = search needs
 
 returns-3 : tie.Need-returns-3
-returns-3 c = unseen (no-order (c .before .settled-views .ensures) (c .if3 .taken))
+returns-3 c = unseen (no-order (c .before .fill-down .ensures) (c .if3 .taken))
+
+fill-up-requires : tie.Need-fill-up-requires
+fill-up-requires c κs = search needs
 
 managed-requires : tie.Need-managed-requires
 managed-requires c κs = search needs
 
 returns-4 : tie.Need-returns-4
-returns-4 c = look-is (shaped (c .before .before .before .before .before .before .before .before .before .before .before)) (sym (c .before .before .before .before .before .before .before .before .before .before .has .ensures) ∙ not-false _ (c .before .before .before .before .before .before .before .before .before .if1 .left)) (holds (c .before .before .before .before .before .before .before .before .joined .ensures) (not-false _ (c .before .before .before .before .before .before .before .if2 .left))) (c .before .before .before .before .settled-views .ensures) (c .before .before .before .if3 .left) (c .managed .ensures)
+returns-4 c = look-is (shaped (c .before .before .before .before .before .before .before .before .before .before .before .before .before)) (sym (c .before .before .before .before .before .before .before .before .before .before .before .before .has .ensures) ∙ not-false _ (c .before .before .before .before .before .before .before .before .before .before .before .if1 .left)) (holds (c .before .before .before .before .before .before .before .before .before .before .joined .ensures) (not-false _ (c .before .before .before .before .before .before .before .before .before .if2 .left))) (c .before .before .before .before .before .before .before .fill-down .ensures) (c .before .before .before .before .before .before .if3 .left) (c .before .before .before .fill-up .ensures) (c .managed .ensures)
 
 pub look-spec : {M : Type 1} → statement M
 look-spec =
@@ -42,7 +45,8 @@ look-spec =
     returns
     joined-requires
     returns-2
-    settled-views-requires
+    fill-down-requires
     returns-3
+    fill-up-requires
     managed-requires
     returns-4)

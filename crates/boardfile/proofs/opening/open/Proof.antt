@@ -61,14 +61,17 @@ refused-requires-3 c κs = search needs
 returns-3 : tie.Need-returns-3
 returns-3 c = refused-record (good-frame (c .before .before .before .before .before .before .before .before .before) .faultless) (subst (Told (c .before .before)) (not-true (c .before .before .edges .result) (c .before .if1 .taken)) (c .before .before .edges .ensures)) (c .refused3 .ensures)
 
-settled-views-requires : tie.Need-settled-views-requires
-settled-views-requires c κs = search needs
+fill-down-requires : tie.Need-fill-down-requires
+fill-down-requires c κs = search needs
 
 refused-requires-4 : tie.Need-refused-requires-4
 refused-requires-4 c κs = search needs
 
 returns-4 : tie.Need-returns-4
-returns-4 c = opened-7 (good-frame (c .before .before .before .before .before .before .before .before .before .before .before .before .before .before .before)) (good-roles (c .before .before .before .before .before .before .before .before .before .before .before)) (good-edges (c .before .before .before .before .before .before .before)) (c .before .before .settled-views .ensures) (c .before .if2 .taken) (c .refused4 .ensures)
+returns-4 c = opened-7 (good-frame (c .before .before .before .before .before .before .before .before .before .before .before .before .before .before)) (good-roles (c .before .before .before .before .before .before .before .before .before .before)) (good-edges (c .before .before .before .before .before .before)) (c .before .before .fill-down .ensures) (c .before .if2 .taken) (c .refused4 .ensures)
+
+fill-up-requires : tie.Need-fill-up-requires
+fill-up-requires c κs = search needs
 
 managed-requires : tie.Need-managed-requires
 managed-requires c κs = search needs
@@ -77,10 +80,10 @@ refused-requires-5 : tie.Need-refused-requires-5
 refused-requires-5 c κs = search needs
 
 returns-5 : tie.Need-returns-5
-returns-5 c = opened-9 (good-frame (c .before .before .before .before .before .before .before .before .before .before .before .before .before .before .before .before .before .before .before)) (good-roles (c .before .before .before .before .before .before .before .before .before .before .before .before .before .before .before)) (good-edges (c .before .before .before .before .before .before .before .before .before .before .before)) (c .before .before .before .before .before .before .settled-views .ensures) (c .before .before .before .before .before .if2 .left) (c .before .before .managed .ensures) (not-true _ (c .before .if3 .taken)) (c .refused5 .ensures)
+returns-5 c = opened-9 (good-frame (c .before .before .before .before .before .before .before .before .before .before .before .before .before .before .before .before .before .before .before .before .before)) (good-roles (c .before .before .before .before .before .before .before .before .before .before .before .before .before .before .before .before .before)) (good-edges (c .before .before .before .before .before .before .before .before .before .before .before .before .before)) (c .before .before .before .before .before .before .before .before .before .fill-down .ensures) (c .before .before .before .before .before .before .before .before .if2 .left) (c .before .before .before .before .before .fill-up .ensures) (c .before .before .managed .ensures) (not-true _ (c .before .if3 .taken)) (c .refused5 .ensures)
 
 returns-6 : tie.Need-returns-6
-returns-6 c = opened (good-frame (c .before .before .before .before .before .before .before .before .before .before .before .before .before .before .before .before .before .before)) (good-roles (c .before .before .before .before .before .before .before .before .before .before .before .before .before .before)) (good-edges (c .before .before .before .before .before .before .before .before .before .before)) (c .before .before .before .before .before .settled-views .ensures) (c .before .before .before .before .if2 .left) (c .before .managed .ensures) (not-false _ (c .if3 .left))
+returns-6 c = opened (good-frame (c .before .before .before .before .before .before .before .before .before .before .before .before .before .before .before .before .before .before .before .before)) (good-roles (c .before .before .before .before .before .before .before .before .before .before .before .before .before .before .before .before)) (good-edges (c .before .before .before .before .before .before .before .before .before .before .before .before)) (c .before .before .before .before .before .before .before .before .fill-down .ensures) (c .before .before .before .before .before .before .before .if2 .left) (c .before .before .before .before .fill-up .ensures) (c .before .managed .ensures) (not-false _ (c .if3 .left))
 
 pub open-spec : {M : Type 1} → statement M
 open-spec =
@@ -99,9 +102,10 @@ open-spec =
     edges-requires
     refused-requires-3
     returns-3
-    settled-views-requires
+    fill-down-requires
     refused-requires-4
     returns-4
+    fill-up-requires
     managed-requires
     refused-requires-5
     returns-5

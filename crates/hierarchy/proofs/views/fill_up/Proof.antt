@@ -6,8 +6,8 @@ use native.Mathlib.Omega.{arith}
 use lib.Count.{ones}
 use Rattle.sets.proofs.Members.{Taken, taken-by, picked, nobody, taken-less}
 use Rattle.hierarchy.proofs.Rows.{Turning, turning-start, turning-turn, turning-end}
-use Rattle.hierarchy.proofs.views.turn.Statement.{statement}
-use Rattle.hierarchy.proofs.views.turn.Tie as tie
+use Rattle.hierarchy.proofs.views.fill_up.Statement.{statement}
+use Rattle.hierarchy.proofs.views.fill_up.Tie as tie
 
 abbrev Inv-loop : tie.InvT-loop
 Inv-loop live down up₀ rest₀ up rest = Turning live down up rest
@@ -15,8 +15,11 @@ Inv-loop live down up₀ rest₀ up rest = Turning live down up rest
 abbrev μ-loop : tie.MeasureT-loop
 μ-loop live down up₀ rest₀ up rest = ones rest
 
+blank-requires : tie.Need-blank-requires Inv-loop μ-loop
+blank-requires c κs = search needs
+
 loop-holds : tie.Need-loop-holds Inv-loop μ-loop
-loop-holds c = subst (λ (t : List ℕ). Turning (c .args .live) (c .args .down .now) t (c .args .live)) (sym (c .pre)) (turning-start (c .args .live) (c .args .down .now))
+loop-holds c = subst (λ (t : List ℕ). Turning (c .before .before .args .live) (c .before .before .args .down .now) t (c .before .before .args .live)) (sym (c .blank .ensures)) (turning-start (c .before .before .args .live) (c .before .before .args .down .now))
 
 lowest-requires : tie.Need-lowest-requires Inv-loop μ-loop
 lowest-requires c κs = search needs
@@ -28,7 +31,7 @@ enum-told : tie.Need-enum-told Inv-loop μ-loop
 enum-told c = search needs
 
 returns : tie.Need-returns Inv-loop μ-loop
-returns c = (c .before .before .before .loop .inv .rows, turning-end (nobody (c .enum-told .given .1) (c .before .before .lowest .ensures)) (c .before .before .before .loop .inv))
+returns c = turning-end (nobody (c .enum-told .given .1) (c .before .before .lowest .ensures)) (c .before .before .before .loop .inv)
 
 mul-mark : tie.Need-mul-mark Inv-loop μ-loop
 mul-mark c = let l = picked (c .before .before .x .given .1) (c .before .before .before .before .lowest .ensures) in omega arith
@@ -51,12 +54,13 @@ loop-less c = taken-less (taken c)
 loop-again : tie.Need-loop-again Inv-loop μ-loop
 loop-again c = turning-turn (taken c) (c .before .before .before .before .before .before .before .before .loop .inv) (c .before .mark .ensures)
 
-pub turn-spec : {M : Type 1} → statement M
-turn-spec =
+pub fill-up-spec : {M : Type 1} → statement M
+fill-up-spec =
     tie.close
     (tie.spec
     Inv-loop
     μ-loop
+    blank-requires
     loop-holds
     lowest-requires
     enum-known-x
