@@ -6,6 +6,7 @@
 #   tests/run.sh replay FILE         the case lines that a disagreement printed ("-": standard input)
 #   tests/run.sh mutations           the broken models of mutations.txt: the comparison must notice each
 #   tests/run.sh bench | stack       what a call costs, in time and in stack
+#   tests/run.sh instructions        and in instructions, where the emulator runs it: it counts them one by one
 #   tests/run.sh boards              makes the files of boards/ anew by the library's writer
 #   tests/run.sh tools               only see to the compiler and the emulator
 #
@@ -100,6 +101,18 @@ layout() {
     run "$build/layout"
 }
 
+# ---- instructions: of two times as many calls less those of as many
+
+executed() { "$emulator" -one-insn-per-tb -d exec,nochain -D /dev/stdout "$build/once" "$@" 2>"$build/said" | grep -c '^Trace'; }
+
+counted() { # BOARD DEED
+    mine=$(($(executed "$1" "$2" 0 2) - $(executed "$1" "$2" 0 1)))
+    other=$(($(executed "$1" "$2" 1 2) - $(executed "$1" "$2" 1 1)))
+    IFS='|' read -r calls name what <"$build/said"
+    awk -v m="$mine" -v o="$other" -v c="$calls" -v n="$name" -v w="$what" \
+        'BEGIN { printf "| %-22s | %-16s | %9d | %9d | %5.2f |\n", n, w, m / c, o / c, m / o }'
+}
+
 # ---- mutations
 
 # Copies the model and changes the one line that is `old`, apart from its indent, into `new`.
@@ -184,6 +197,17 @@ stack)
     tools
     program "$build/stack" -O3 "$here/bench/stack.c" "$here/bench/boards.c" "$here/plain/plain.c"
     run "$build/stack" "$where"
+    ;;
+instructions)
+    tools
+    [ -n "$emulator" ] || die "instructions are counted by the kit's emulator, which this machine doesn't need"
+    program "$build/once" -O3 "$here/bench/once.c" "$here/bench/boards.c" "$here/plain/plain.c"
+    printf '| %-22s | %-16s | %9s | %9s | %5s |\n|---|---|---:|---:|---:|\n' board call "$subject" 'plain C' ratio
+    for board in 0 1 2 3; do
+        for deed in 0 1 2 3 4 5 6 7 8 9; do
+            counted "$board" "$deed"
+        done
+    done
     ;;
 boards)
     tools

@@ -6,7 +6,6 @@ use mathlib.Core.Logic.{_⊎_, _↔_}
 use mathlib.Core.List.{List, _++_}
 use Prim.Native.Nat.{ℕ}
 use Rattle.sets.specs.Sets.{_isIn_}
-use Rattle.sets.specs.declared.Pick.{Pick}
 use Rattle.sets.specs.declared.Pick.the-variants.{Role as One, Nobody as None}
 use Rattle.hierarchy.specs.Tables.{Tables, row}
 use Rattle.hierarchy.specs.Views.{AreViews, InOrder, ScopeBy, AdminBy, Managing, Climbing}

@@ -1,13 +1,14 @@
 -- Order among the live roles, and loops. Assumes nothing.
-use mathlib.Core.Path.{_≡_, sym, ap, _∙_, subst}
-use mathlib.Core.Bool.{Bool, false, not, _&&_, and-true}
+use mathlib.Core.Path.{_≡_, sym, subst}
+use mathlib.Core.Bool.{false}
 use mathlib.Core.Logic.{_⊎_, inl, inr, ⊎-elim, _↔_, _≢_}
 use Prim.Native.Nat.{ℕ, zero, suc, _^_, _≤_, _<_}
 use native.Mathlib.Omega.{arith}
 use lib.Count.{ones, ones-le}
-use Rattle.sets.specs.Sets.{bit, same?}
+use Rattle.sets.specs.Sets.{bit, _isIn_}
 use Rattle.sets.proofs.Bools.{true-or-false, false-no}
-use Rattle.sets.proofs.Laws.{bit-lt, ones-less, setOf-fits, same-eq, but, bit-but}
+use Rattle.sets.proofs.Laws.{bit-lt, setOf-fits, but, bit-but}
+use Rattle.sets.proofs.Members.{Drawn, drawn-less, drawn-cases}
 use Rattle.hierarchy.specs.Tables.{Tables, Live, kind}
 use Rattle.hierarchy.specs.Words.{Way, Way.edge, Way.then, Reaches, Loops, Joined}
 use Rattle.hierarchy.specs.Views.{Settles, Settles.settle, InOrder}
@@ -26,9 +27,9 @@ settles-loopless : {t : Tables} {x : ℕ} → Settles t x → Reaches t x x → 
 settles-loopless {x = x} (settle l f) (k, edge h) = settles-loopless (f x h) (k, edge h)
 settles-loopless (settle l f) (_, then {y = y} h w) = settles-loopless (f y h) (reaches-trans (_, w) (_, edge h))
 
-but-cases : (s x v : ℕ) → s < 2 ^ 64 → bit (but s x) v ≡ false → (bit s v ≡ false) ⊎ (v ≡ x)
-but-cases s x v f e = ⊎-elim (λ q. inr (same-eq x v q))
-    (λ q. inl (sym (bit-but s x f v ∙ ap (λ (p : Bool). bit s v && not p) q ∙ and-true (bit s v)) ∙ e)) (true-or-false (same? x v))
+-- a role is drawn from a set
+out-of : (s y : ℕ) → s < 2 ^ 64 → y isIn s → Drawn s y (but s y)
+out-of s y f e = record { role = bit-lt 64 f e; member = e; rest-is = bit-but s y f }
 
 -- v is x or reaches it, and x has the junior y
 over : {t : Tables} {v x y : ℕ} → kind t x y ≢ 0 → (v ≡ x) ⊎ Reaches t v x → Reaches t v y
@@ -39,12 +40,12 @@ module _ {t : Tables} (joined : Joined t) (loopless : Loops t → ⊥) where
   -- Going down from x, s holds the live roles not yet met; whoever was met is x or reaches it, so a junior that was met would close a loop.
   goes-down : (k s x : ℕ) → s < 2 ^ 64 → ones s ≤ k → Live t x → ((v : ℕ) → Live t v → bit s v ≡ false → (v ≡ x) ⊎ Reaches t v x) → Settles t x
   goes-down zero s x f o l met = settle l (λ y h. ⊎-elim
-      (λ e. absurd (omega (arith, ones-less s (but s y) y (bit-lt 64 f e) e (bit-but s y f))))
+      (λ e. absurd (omega (arith, drawn-less (out-of s y f e))))
       (λ e. absurd (loopless (y, over h (met y (joined x y h .1) e))))
       (true-or-false (bit s y)))
   goes-down (suc k) s x f o l met = settle l (λ y h. ⊎-elim
-      (λ e. goes-down k (but s y) y (setOf-fits _) (omega (arith, ones-less s (but s y) y (bit-lt 64 f e) e (bit-but s y f))) (joined x y h .1)
-      (λ v m d. ⊎-elim (λ n. inr (over h (met v m n))) (λ q. inl q) (but-cases s y v f d)))
+      (λ e. goes-down k (but s y) y (setOf-fits _) (omega (arith, drawn-less (out-of s y f e))) (joined x y h .1)
+      (λ v m d. ⊎-elim (λ n. inr (over h (met v m n))) (λ q. inl q) (drawn-cases (out-of s y f e) v d)))
       (λ e. absurd (loopless (y, over h (met y (joined x y h .1) e))))
       (true-or-false (bit s y)))
 

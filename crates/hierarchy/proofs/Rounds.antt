@@ -1,20 +1,17 @@
 -- Entries that join live roles, row by row. Assumes nothing.
-use mathlib.Core.Path.{_≡_, refl, sym, ap, _∙_, subst}
-use mathlib.Core.Bool.{Bool, true, false, not, _&&_, _||_, and-true}
-use mathlib.Core.Logic.{_⊎_, inl, inr, ⊎-elim, _↔_, _≢_}
+use mathlib.Core.Path.{_≡_, refl, sym, _∙_}
+use mathlib.Core.Bool.{Bool, true, false, _&&_, _||_}
+use mathlib.Core.Logic.{_⊎_, ⊎-elim, _↔_}
 use mathlib.Core.List.{List}
-use Prim.Native.Nat.{ℕ, zero, suc, _^_, _≤_, _<_}
+use Prim.Native.Nat.{ℕ, _≤_, _<_}
 use native.Mathlib.Omega.{arith}
-use lib.Count.{ones, ones-le}
 use lib.ListN.{length}
-use Rattle.sets.specs.Sets.{bit, _isIn_, _areIn_, same?}
-use Rattle.sets.proofs.Bools.{true-or-false, or-cases, or-left, or-right, and-left, and-right, and-both, false-no, lt-or-ge}
-use Rattle.sets.proofs.Laws.{bit-lt, ones-less, setOf-fits, same-eq, but, bit-but}
-use Rattle.hierarchy.specs.Tables.{Tables, tables, row, kind}
-use Rattle.hierarchy.specs.Words.{Way.edge, Reaches, Joined}
+use Rattle.sets.specs.Sets.{bit, _isIn_, _areIn_}
+use Rattle.sets.proofs.Bools.{or-cases, or-left, or-right, and-left, and-right, and-both, false-no, lt-or-ge}
+use Rattle.hierarchy.specs.Tables.{tables, row}
+use Rattle.hierarchy.specs.Words.{Joined}
 use Rattle.hierarchy.proofs.Derive.{edge-entry}
-use Rattle.hierarchy.proofs.Admin.{reaches-trans}
-use Rattle.hierarchy.proofs.Managing.{past-row, a-member, no-iff}
+use Rattle.hierarchy.proofs.Managing.{past-row, no-iff}
 
 pub joined-no : (live x : ℕ) (i a : List ℕ) (both near : ℕ) (w : Bool) → ((y : ℕ) → bit both y ≡ (bit (row i x) y || bit (row a x) y))
     → ((y : ℕ) → bit near y ≡ (bit live x && bit live y)) → (w ≡ true) ↔ (both areIn near) → w ≡ false → (false ≡ true) ↔ Joined (tables live i a)

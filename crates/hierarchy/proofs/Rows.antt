@@ -1,7 +1,7 @@
 -- Tables that a loop fills, row by row or member by member. Assumes nothing.
 use mathlib.Core.Path.{_≡_, refl, sym, ap, ap₂, _∙_, subst}
 use mathlib.Core.Bool.{Bool, true, false, not, _&&_, _||_, and-true, and-false, or-false, and-not-self}
-use mathlib.Core.Logic.{⊎-elim, _≢_, dite}
+use mathlib.Core.Logic.{_≢_, dite}
 use mathlib.Core.List.{List}
 use Prim.Native.Nat.{ℕ, zero, suc, _<_}
 use native.Mathlib.Decide.{ℕ-discrete}
@@ -11,7 +11,7 @@ use Rattle.sets.specs.Sets.{bit, _isIn_, _areIn_, same?, NoRole}
 use Rattle.sets.proofs.Bools.{and-left, and-right, and-both, not-so}
 use Rattle.sets.proofs.Digits.{bit-zero}
 use Rattle.sets.proofs.Laws.{same-eq, same-self}
-use Rattle.sets.proofs.Members.{Taken, taken-part, taken-cases}
+use Rattle.sets.proofs.Members.{Taken, taken-part}
 use Rattle.hierarchy.specs.Tables.{row}
 use Rattle.hierarchy.specs.Views.{Turned}
 use Rattle.hierarchy.specs.Engine.{Marked}

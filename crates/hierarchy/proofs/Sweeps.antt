@@ -1,7 +1,7 @@
 -- What roles lead to, settled from the juniors up. Assumes nothing.
 use mathlib.Core.Path.{_≡_, refl, sym, ap, _∙_, subst}
 use mathlib.Core.Bool.{Bool, true, false, not, _&&_, _||_, and-false}
-use mathlib.Core.Logic.{_⊎_, inl, inr, ⊎-elim, ⊎-map, _↔_, _≢_, dite}
+use mathlib.Core.Logic.{_⊎_, inl, inr, ⊎-elim, ⊎-map, _↔_, dite}
 use mathlib.Core.List.{List}
 use Prim.Native.Nat.{ℕ, _^_, _<_}
 use native.Mathlib.Decide.{ℕ-discrete}
@@ -11,12 +11,12 @@ use borrow.Author.Tests.{eq-eqb}
 use Rattle.sets.specs.Sets.{bit, _isIn_, _areIn_, same?, setOf, NoRole, Lowest, Highest}
 use Rattle.sets.specs.declared.Pick.{Pick}
 use Rattle.sets.specs.declared.Pick.the-variants.{Role, Nobody}
-use Rattle.sets.proofs.Bools.{true-or-false, or-cases, or-left, or-right, and-left, and-right, and-both, false-no, not-so, iff-same, lt-or-ge}
+use Rattle.sets.proofs.Bools.{true-or-false, or-cases, or-left, or-right, and-left, and-right, and-both, false-no, not-so, lt-or-ge}
 use Rattle.sets.proofs.Digits.{bit-zero}
-use Rattle.sets.proofs.Laws.{ext, bit-lt, same-eq, same-self, part-whole, minus-part, setOf-fits, in-setOf}
+use Rattle.sets.proofs.Laws.{bit-lt, same-eq, same-self, part-whole, minus-part, setOf-fits, in-setOf}
 use Rattle.sets.proofs.Members.{Drawn, drawn-kept, Taken, taken-part, taken-kept}
-use Rattle.hierarchy.specs.Tables.{Tables, tables, row, kind}
-use Rattle.hierarchy.specs.Words.{Derives, Way, Way.edge, Way.then, Reaches, Chain, Chain.stop, Chain.step}
+use Rattle.hierarchy.specs.Tables.{Tables, tables, row}
+use Rattle.hierarchy.specs.Words.{Derives, Chain, Chain.stop, Chain.step}
 use Rattle.hierarchy.specs.Views.{Settles, Settles.settle, Settled}
 use Rattle.hierarchy.specs.Engine.{Entry, IsOf, OneOf, InRows, Spread, ByI, RowSettled, RightRows, Right, Founded, Founded.founded, Waits, Swept, Ordered}
 use Rattle.hierarchy.proofs.Derive.{edge-entry, derives↔descends}

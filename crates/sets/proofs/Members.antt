@@ -52,9 +52,6 @@ module _ {rest x rest′ : ℕ} (t : Taken rest x rest′) where
   pub taken-part : rest′ areIn rest
   taken-part = drawn-part drawn
 
-  pub taken-cases : (y : ℕ) → bit rest′ y ≡ false → (bit rest y ≡ false) ⊎ (y ≡ x)
-  taken-cases = drawn-cases drawn
-
   pub taken-kept : (y : ℕ) → y isIn rest → (y isIn rest′) ⊎ (y ≡ x)
   taken-kept = drawn-kept drawn
 

@@ -1,6 +1,5 @@
 use Rattle.hierarchy.specs.Tables.{kind}
 use Rattle.boardfile.specs.Files.{kindAt}
-use native.Mathlib.Omega.{arith}
 use borrow.Author.Needs.{needs}
 use Rattle.boardfile.proofs.writer.edge_count.Statement.{statement}
 use Rattle.boardfile.proofs.writer.edge_count.Tie as tie

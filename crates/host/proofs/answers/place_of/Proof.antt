@@ -1,4 +1,4 @@
-use borrow.Author.Tests.{eq-eqb, ne-eqb}
+use borrow.Author.Tests.{ne-eqb}
 use Rattle.host.specs.Answers.{placeOf}
 use Rattle.host.proofs.answers.place_of.Statement.{statement}
 use Rattle.host.proofs.answers.place_of.Tie as tie
