@@ -23,7 +23,7 @@ for crate in crates/*/; do
     awk -v name="$name" '
         function done() {
             if (fn == "") return
-            while (sub(/\([^():]+ : [^():]+\) →/, "", promise)) {}
+            while (sub(/\([^():]+ : ℕ\) →/, "", promise)) {}
             if (requires) wrong("has a requires")
             if (promise == "") wrong("has no ensures")
             if (promise ~ /→/) wrong("has a premise in its ensures")

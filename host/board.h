@@ -4,8 +4,9 @@
  * itself, so nothing has to be tested before. It keeps nothing between calls, takes no memory from the heap, and calls
  * from several threads are fine on different boards and buffers.
  *
- * Of a pointer it asks what C asks: that many bytes are there. Hand over no null pointer, not even with length 0, no
- * `out` that overlaps `file`, and a `struct board` that nobody else reads or writes during the call.
+ * Of a pointer it asks what C asks: that many bytes are there. Hand over no null pointer, not even with length 0. What a
+ * call writes (`b`, `out`) may overlap nothing else that is handed over, and nobody else writes what is handed over, or
+ * reads what is written, during the call.
  *
  *     uint8_t file[BOARD_FILE], next[BOARD_FILE];
  *     size_t len = ...;                                            // a board file, read from somewhere
@@ -85,11 +86,11 @@ uint64_t board_scope(const uint8_t *file, size_t file_len, uint32_t a, uint32_t 
 #define BOARD_SCOPE_YES(answer) ((uint32_t)((answer) >> 16 & 1))
 #define BOARD_SCOPE_COUNT(answer) ((uint32_t)((answer) >> 17 & 0x7fff))
 
-/* The line manager of r. Role 0 has none, which is no refusal. */
+/* The line manager of r: the value is its number, or BOARD_NO_MANAGER. Role 0 has none, which is no refusal. */
 uint64_t board_manager(const uint8_t *file, size_t file_len, uint32_t r);
 #define BOARD_NO_MANAGER 64
 
-/* The number of steps from r to role 0 by line managers. */
+/* From r to role 0 by line managers: the value is the number of steps. */
 uint64_t board_steps(const uint8_t *file, size_t file_len, uint32_t r);
 
 /* Where the edge records of a senior stand in the file. One with no edge has length 0, and then start 0. */

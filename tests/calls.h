@@ -2,7 +2,7 @@
 #ifndef CALLS_H
 #define CALLS_H
 
-#include <board.h> /* found by the path that run.sh gives: the library's own, once there is one */
+#include <board.h> /* the library's own, by the path that run.sh gives */
 
 struct calls {
     uint64_t (*apply)(struct board *b, const struct command *c);

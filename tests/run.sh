@@ -65,8 +65,7 @@ tools() {
 
 # ---- building
 
-# The header of the library once it has one; the same header stands here for the tests alone.
-if [ -f "$root/host/board.h" ]; then header=$root/host; else header=$here; fi
+header=$root/host
 
 case $subject in
 library) library_words=$library subject_words='' plain='' ;;

@@ -1,18 +1,22 @@
 -- What a look at a board is made of. Assumes nothing.
-use mathlib.Core.Path.{_≡_, sym, _∙_}
+use mathlib.Core.Path.{_≡_, sym, subst, _∙_}
 use mathlib.Core.Bool.{Bool, true, false, false≢true}
-use mathlib.Core.Logic.{_↔_}
-use mathlib.Core.List.{List}
+use mathlib.Core.Logic.{inl, inr, _↔_}
+use mathlib.Core.List.{List, [], _∷_}
 use Prim.Native.Nat.{ℕ}
 use Rattle.hierarchy.specs.Tables.{Tables, Live, Shaped}
+use Rattle.hierarchy.specs.First.{First}
 use Rattle.hierarchy.specs.Words.{Joined, Loops, Managed, Sound}
-use Rattle.hierarchy.specs.Views.{AreViews, Settled, Turned, ManagedBy}
+use Rattle.hierarchy.specs.Views.{AreViews, InOrder, Settled, Turned, ManagedBy}
 use Rattle.hierarchy.proofs.Decide.{loops-dec}
+use Rattle.hierarchy.proofs.FirstLaws.{hit, pass}
 use Rattle.hierarchy.proofs.Order.{order-loopless}
 use Rattle.hierarchy.proofs.ViewLaws.{admin-by, in-order-is, settled-views}
 use Rattle.board.specs.Boards.{tablesOf}
-use Rattle.board.specs.Looks.{Seen, Viewed, Disordered}
+use Rattle.board.specs.Commands.{Outside}
+use Rattle.board.specs.Looks.{Seen, Viewed, OutOfOrder, late}
 use Rattle.board.specs.declared.Board.{Board}
+use Rattle.board.specs.declared.Command.{Command}
 use Rattle.board.proofs.Rules.{stable}
 
 -- ---- a test that decides P, by its answer
@@ -35,10 +39,22 @@ managed-by v = (
 )
 
 -- where entries join live roles, what is out of order has a loop
-pub disordered-loops : {t : Tables} → Shaped t → Joined t → Disordered t ↔ Loops t
+pub disordered-loops : {t : Tables} → Shaped t → Joined t → (InOrder t → ⊥) ↔ Loops t
 disordered-loops shaped joined =
     let order = order-loopless (shaped .live-fits) joined in
     (λ n. stable (loops-dec shaped) (λ m. n (order .1 m)), λ l o. order .0 o l)
+
+-- ---- the rows on the board that a command would leave, by whether it is in order
+
+pub late-disordered : (b : Board) (c : Command) (n : ℕ) → Shaped (tablesOf b) → (InOrder (tablesOf b) → ⊥) → OutOfOrder (tablesOf b) n → First (late b c) n
+late-disordered b c n shaped without (inl w) =
+    subst (First (late b c)) (sym (w .1)) (pass _ _ _ _ (λ k. k .unjoined (w .0)) (hit _ _ _ (w .0, disordered-loops shaped (w .0) .0 without)))
+late-disordered b c n shaped without (inr w) = subst (First (late b c)) (sym (w .1)) (hit _ _ _ (record { disordered = without; unjoined = w .0 }))
+
+pub late-ordered : (b : Board) (c : Command) (n : ℕ) → Shaped (tablesOf b) → InOrder (tablesOf b)
+    → First ((8, Outside b c) ∷ (9, (Managed (tablesOf b) → ⊥)) ∷ []) n → First (late b c) n
+late-ordered b c n shaped order f =
+    pass _ _ _ _ (λ k. k .disordered order) (pass _ _ _ _ (λ w. order-loopless (shaped .live-fits) (w .0) .0 order (w .1)) f)
 
 -- ---- a look
 

@@ -38,18 +38,20 @@ Alike [] (y ∷ ys) = ⊥
 Alike (x ∷ xs) [] = ⊥
 Alike (x ∷ xs) (y ∷ ys) = (x .0 ≡ y .0) × (x .1 ↔ y .1) × Alike xs ys
 
--- have the same answer, and so do two in a row, where the second agree once the first are passed
-pub first-alike : (xs ys us vs : List (ℕ × Type 0)) (n : ℕ) → Alike xs ys → (Passed xs → Alike us vs) → First (xs ++ us) n → First (ys ++ vs) n
+-- have the same answer, and so do two in a row, where the second have it once the first are passed
+pub first-alike : (xs ys us vs : List (ℕ × Type 0)) (n : ℕ) → Alike xs ys → (Passed xs → First us n → First vs n) → First (xs ++ us) n → First (ys ++ vs) n
 unfolding First
-first-alike [] [] [] [] n a f h = h
-first-alike [] [] [] (v ∷ vs) n a f h = absurd (f tt)
-first-alike [] [] (u ∷ us) [] n a f h = absurd (f tt)
-first-alike [] [] (u ∷ us) (v ∷ vs) n a f (inl p) = let w = f tt in inl (w .1 .0 (p .0), p .1 ∙ w .0)
-first-alike [] [] (u ∷ us) (v ∷ vs) n a f (inr p) = let w = f tt in inr (λ k. p .0 (w .1 .1 k), first-alike [] [] us vs n tt (λ _. w .2) (p .1))
+first-alike [] [] us vs n a f h = f tt h
 first-alike [] (y ∷ ys) us vs n a f h = absurd a
 first-alike (x ∷ xs) [] us vs n a f h = absurd a
 first-alike (x ∷ xs) (y ∷ ys) us vs n a f (inl p) = inl (a .1 .0 (p .0), p .1 ∙ a .0)
 first-alike (x ∷ xs) (y ∷ ys) us vs n a f (inr p) = inr (λ k. p .0 (a .1 .1 k), first-alike xs ys us vs n (a .2) (λ q. f (p .0, q)) (p .1))
+
+-- a row that never holds says nothing
+pub first-without : (k : ℕ) (X : Type 0) (rest : List (ℕ × Type 0)) (n : ℕ) → (X → ⊥) → First ((k, X) ∷ rest) n → First rest n
+unfolding First
+first-without k X rest n never (inl p) = absurd (never (p .0))
+first-without k X rest n never (inr p) = p .1
 
 -- a refusal of the first table is one of both
 pub first-refused : (xs ys : List (ℕ × Type 0)) (n : ℕ) → n ≢ 0 → First xs n → First (xs ++ ys) n

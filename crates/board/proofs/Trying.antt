@@ -13,7 +13,7 @@ use Rattle.sets.specs.Sets.{bit, _isIn_, _areIn_, same?}
 use Rattle.sets.proofs.Bools.{true-or-false, or-cases, or-left, or-right, and-left, and-right, and-both, false-no, lt-or-ge, not-so}
 use Rattle.sets.proofs.Digits.{bit-zero}
 use Rattle.sets.proofs.Laws.{same-is, same-eq, bit-lowest}
-use Rattle.hierarchy.specs.Tables.{Tables, row, kind}
+use Rattle.hierarchy.specs.Tables.{row, kind}
 use Rattle.hierarchy.specs.Words.{Sound}
 use Rattle.hierarchy.specs.First.{First}
 use Rattle.hierarchy.specs.Views.{AreViews}
@@ -22,10 +22,10 @@ use Rattle.hierarchy.proofs.Derive.{edge-entry}
 use Rattle.hierarchy.proofs.FirstLaws.{hit, pass, none}
 use Rattle.hierarchy.proofs.ViewLaws.{admin-by}
 use Rattle.board.specs.Boards.{tablesOf}
-use Rattle.board.specs.Commands.{NamesKind, Malformed, asSenior, asJunior, needed, Missing, edgeKind, Standing, NoEdge, scoped, strictly, InScope, Outside, before, afterwards, DecidedBy, Decided}
+use Rattle.board.specs.Commands.{NamesKind, Malformed, asSenior, asJunior, needed, Missing, edgeKind, Standing, NoEdge, scoped, strictly, InScope, Outside, before, DecidedBy, Decided}
 use Rattle.board.specs.Commands.{Malformed.no-code, Malformed.no-actor, Malformed.no-role, Malformed.no-junior, Malformed.no-kind, Standing.role, Standing.edge}
 use Rattle.board.specs.Effects.{after}
-use Rattle.board.specs.Looks.{OutsideBy}
+use Rattle.board.specs.Looks.{OutsideBy, late}
 use Rattle.board.specs.declared.Board.{Board}
 use Rattle.board.specs.declared.Command.{Command}
 use Rattle.board.proofs.Rules.{stable, first-done, first-refused, first-next}
@@ -245,21 +245,21 @@ module _ (In : ℕ → ℕ → Type 0) (b : Board) (c : Command) where
 pub decided-unsound : (b : Board) (c : Command) → (Sound (tablesOf b) → ⊥) → Decided b c 1 b
 decided-unsound b c n = record { numbered = hit _ _ _ n; done = λ z. absurd (omega (arith, z)); refused = λ _. refl }
 
-module _ (In : ℕ → ℕ → Type 0) (Looping : Tables → Type 0) (b : Board) (c : Command) where
+module _ (In : ℕ → ℕ → Type 0) (b : Board) (c : Command) where
   abbrev Outcome : ℕ → Board → Type 0
-  Outcome = DecidedBy (before In b c ++ afterwards Looping (after b c) c) b c
+  Outcome = DecidedBy (before In b c ++ late (after b c) c) b c
 
   pub decided-early : (n : ℕ) → n ≢ 0 → First (before In b c) n → Outcome n b
   decided-early n h f = record { numbered = first-refused (before In b c) _ n h f; done = λ z. absurd (h z); refused = λ _. refl }
 
   module _ (m : ℕ) (early : m ≡ 0) (passed : First (before In b c) m) (next : Board) (is : next ≡ after b c) where
-    late : (n : ℕ) → First (afterwards Looping next c) n → First (before In b c ++ afterwards Looping (after b c) c) n
-    late n f =
-        first-next (before In b c) (afterwards Looping (after b c) c) n (first-done (before In b c) refl (subst (First (before In b c)) early passed))
-        (subst (λ (k : Board). First (afterwards Looping k c) n) is f)
+    numbered : (n : ℕ) → First (late next c) n → First (before In b c ++ late (after b c) c) n
+    numbered n f =
+        first-next (before In b c) (late (after b c) c) n (first-done (before In b c) refl (subst (First (before In b c)) early passed))
+        (subst (λ (k : Board). First (late k c) n) is f)
 
-    pub decided-late : (n : ℕ) → n ≢ 0 → First (afterwards Looping next c) n → Outcome n b
-    decided-late n h f = record { numbered = late n f; done = λ z. absurd (h z); refused = λ _. refl }
+    pub decided-late : (n : ℕ) → n ≢ 0 → First (late next c) n → Outcome n b
+    decided-late n h f = record { numbered = numbered n f; done = λ z. absurd (h z); refused = λ _. refl }
 
-    pub decided-done : (n : ℕ) → n ≡ 0 → First (afterwards Looping next c) n → Outcome 0 next
-    decided-done n z f = record { numbered = subst (First (before In b c ++ afterwards Looping (after b c) c)) z (late n f); done = λ _. is; refused = λ h. absurd (h refl) }
+    pub decided-done : (n : ℕ) → n ≡ 0 → First (late next c) n → Outcome 0 next
+    decided-done n z f = record { numbered = subst (First (before In b c ++ late (after b c) c)) z (numbered n f); done = λ _. is; refused = λ h. absurd (h refl) }

@@ -2,28 +2,27 @@
 use mathlib.Core.Path.{_≡_, refl}
 use mathlib.Core.Bool.{Bool}
 use mathlib.Core.Logic.{inl, inr, _↔_, Iff·rfl, Iff·trans}
-use mathlib.Core.List.{List}
+use mathlib.Core.List.{List, [], _∷_}
 use Prim.Native.Nat.{ℕ}
-use Rattle.hierarchy.specs.Words.{Scope, Loops, Climb}
+use Rattle.hierarchy.specs.Words.{Scope, Joined, Loops, Managed, Climb}
 use Rattle.hierarchy.specs.First.{First}
 use Rattle.hierarchy.specs.Views.{ScopeBy}
 use Rattle.hierarchy.proofs.FirstLaws.{pass}
 use Rattle.hierarchy.proofs.ViewLaws.{scope-by, managing-by, managing-nobody, climbing-by, climbing-stopped}
 use Rattle.board.specs.Boards.{tablesOf}
 use Rattle.board.specs.Effects.{after}
-use Rattle.board.specs.Commands.{InScope, before, afterwards, Decided}
+use Rattle.board.specs.Commands.{InScope, before, Outside, afterwards, Decided}
 use Rattle.board.specs.Questions.{misnamed, Manages, DerivesAnswer, ScopeAnswer, ManagerAnswer, StepsAnswer}
 use Rattle.board.specs.Questions.{refusals as questionRefusals}
-use Rattle.board.specs.Looks.{Viewed, Disordered, DecidedOff, DerivesOff, ScopeOff, ManagesOff, ManagerOff, ClimbsOff, StepsOff}
+use Rattle.board.specs.Looks.{Viewed, Torn, late, DecidedOff, DerivesOff, ScopeOff, ManagesOff, ManagerOff, ClimbsOff, StepsOff}
 use Rattle.board.specs.declared.Board.{Board}
 use Rattle.board.specs.declared.Command.{Command}
 use Rattle.board.specs.declared.questions.Manager.{Manager}
 use Rattle.board.specs.declared.questions.Manager.the-variants.{Role, Nobody}
-use Rattle.board.proofs.Rules.{Alike, Passed, first-alike}
-use Rattle.board.proofs.Looking.{disordered-loops}
+use Rattle.board.proofs.Rules.{Passed, first-alike, first-without}
 use Rattle.board.proofs.Asking.{asked, answer-as}
 use Rattle.board.proofs.Trying.{in-scope-alike}
-use Rattle.board.proofs.Kept.{shaped-after, joined-after}
+use Rattle.board.proofs.Kept.{joined-after}
 
 module _ {b : Board} {down up : List ℕ} (v : Viewed b down up) where
   -- ---- a command
@@ -31,8 +30,8 @@ module _ {b : Board} {down up : List ℕ} (v : Viewed b down up) where
   pub decided-viewed : {c : Command} {n : ℕ} {board : Board} → DecidedOff down up b c n board → Decided b c n board
   decided-viewed {c} {n} d = record {
     numbered = pass _ _ _ _ (λ k. k (v .sound))
-        (first-alike (before (ScopeBy down up) b c) (before (Scope (tablesOf b)) b c) (afterwards Disordered (after b c) c) (afterwards Loops (after b c) c) n
-        (refl, Iff·rfl, (refl, Iff·rfl, (refl, Iff·rfl, (refl, Iff·rfl, (refl, scope-row, tt))))) loop-row (d .numbered));
+        (first-alike (before (ScopeBy down up) b c) (before (Scope (tablesOf b)) b c) (late (after b c) c) (afterwards (after b c) c) n
+        (refl, Iff·rfl, (refl, Iff·rfl, (refl, Iff·rfl, (refl, Iff·rfl, (refl, scope-row, tt))))) whole (d .numbered));
     done = d .done;
     refused = d .refused;
   }
@@ -42,9 +41,13 @@ module _ {b : Board} {down up : List ℕ} (v : Viewed b down up) where
           let s = in-scope-alike c (λ x. scope-by (v .seen)) in
           (λ h k. h (s .1 k), λ h k. h (s .0 k))
 
-      loop-row : Passed (before (ScopeBy down up) b c) → Alike (afterwards Disordered (after b c) c) (afterwards Loops (after b c) c)
-      loop-row p =
-          (refl, disordered-loops (shaped-after b c) (joined-after b c (v .sound .joined) (p .0) (p .1 .0)), (refl, Iff·rfl, (refl, Iff·rfl, tt)))
+      -- a sound board's entries still join live roles once the rows before are passed
+      whole : Passed (before (ScopeBy down up) b c) → First (late (after b c) c) n → First (afterwards (after b c) c) n
+      whole p h =
+          let joined = joined-after b c (v .sound .joined) (p .0) (p .1 .0) in
+          let rows : List (ℕ × Type 0) = (7, (Joined (tablesOf (after b c)) × Loops (tablesOf (after b c)))) ∷ (8, Outside (after b c) c) ∷ (9, (Managed (tablesOf (after b c)) → ⊥)) ∷ [] in
+          first-alike rows (afterwards (after b c) c) [] [] n (refl, (λ w. w .1, λ l. (joined, l)), (refl, Iff·rfl, (refl, Iff·rfl, tt))) (λ _ f. f)
+          (first-without 1 _ rows n (λ (k : Torn (tablesOf (after b c))). k .unjoined joined) h)
 
   -- ---- the questions
 

@@ -6,7 +6,7 @@ use mathlib.Core.List.{List, [], _∷_, _++_}
 use Prim.Native.Nat.{ℕ, _≤_, _<_}
 use lib.Dec.{eqb, leb}
 use Rattle.sets.specs.Sets.{bit, _isIn_}
-use Rattle.hierarchy.specs.Tables.{Tables, kind}
+use Rattle.hierarchy.specs.Tables.{kind}
 use Rattle.hierarchy.specs.Words.{Scope, Administrator, Loops, Managed, Sound}
 use Rattle.hierarchy.specs.First.{First}
 use Rattle.board.specs.Boards.{tablesOf}
@@ -100,17 +100,17 @@ before In b c =
     ∷ (6, (InScope In c → ⊥))
     ∷ []
 
--- on the board that the command would leave, by what counts as a loop there
-abbrev pub afterwards : (Tables → Type 0) → Board → Command → List (ℕ × Type 0)
-afterwards Looping b c =
-    (7, Looping (tablesOf b))
+-- on the board that the command would leave
+abbrev pub afterwards : Board → Command → List (ℕ × Type 0)
+afterwards b c =
+    (7, Loops (tablesOf b))
     ∷ (8, Outside b c)
     ∷ (9, (Managed (tablesOf b) → ⊥))
     ∷ []
 
--- document 01's table: its own words in both, and an unsound board refused first
+-- document 01's table: its own word for scope, and an unsound board refused first
 abbrev pub refusals : Board → Command → List (ℕ × Type 0)
-refusals b c = (1, (Sound (tablesOf b) → ⊥)) ∷ (before (Scope (tablesOf b)) b c ++ afterwards Loops (after b c) c)
+refusals b c = (1, (Sound (tablesOf b) → ⊥)) ∷ (before (Scope (tablesOf b)) b c ++ afterwards (after b c) c)
 
 -- ---- what a command answers: the number by the table; done makes the change, a refusal leaves the board as it was
 

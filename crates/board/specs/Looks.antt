@@ -3,17 +3,17 @@
 use mathlib.Core.Path.{_≡_}
 use mathlib.Core.Bool.{Bool, true, false}
 use mathlib.Core.Logic.{_⊎_, _↔_}
-use mathlib.Core.List.{List, _++_}
+use mathlib.Core.List.{List, [], _∷_, _++_}
 use Prim.Native.Nat.{ℕ}
 use Rattle.sets.specs.Sets.{_isIn_}
 use Rattle.sets.specs.declared.Pick.the-variants.{Role as One, Nobody as None}
 use Rattle.hierarchy.specs.Tables.{Tables, row}
 use Rattle.hierarchy.specs.Views.{AreViews, InOrder, ScopeBy, AdminBy, Managing, Climbing}
-use Rattle.hierarchy.specs.Words.{Sound}
+use Rattle.hierarchy.specs.Words.{Joined, Loops, Managed, Sound}
 use Rattle.hierarchy.specs.declared.scopes.Climbed.the-variants.{Steps, Stopped}
 use Rattle.board.specs.Boards.{tablesOf}
 use Rattle.board.specs.Effects.{after}
-use Rattle.board.specs.Commands.{before, afterwards, DecidedBy}
+use Rattle.board.specs.Commands.{before, Outside, DecidedBy}
 use Rattle.board.specs.Questions.{misnamed, Says, Counts, Answered}
 use Rattle.board.specs.declared.Board.{Board}
 use Rattle.board.specs.declared.Command.{Command}
@@ -32,11 +32,26 @@ pub record Viewed (b : Board) (down up : List ℕ) : Type 0 where
   pub sound : Sound (tablesOf b)
   pub seen : AreViews (tablesOf b) down up
 
--- ---- a command: document 01's rows 2 to 9, with scope read off the two tables
+-- ---- a command: document 01's rows, with scope read off the two tables
 
--- What stands for row 7 on any tables: the live roles are not in order. Where entries join live roles, some role then reaches itself.
-abbrev pub Disordered : Tables → Type 0
-Disordered t = InOrder t → ⊥
+-- The board that the command would leave shows that the one handed in was not sound: its live roles are not in order, and an entry joins
+-- a role that isn't live. A board's soundness is not looked at before, and this row is tried where the work comes to a halt on it.
+pub record Torn (t : Tables) : Type 0 where
+  pub disordered : InOrder t → ⊥
+  pub unjoined : Joined t → ⊥
+
+-- row 7 where the board that would be left has such entries and can be weighed all the same: only a loop of roles that are joined counts
+abbrev pub late : Board → Command → List (ℕ × Type 0)
+late b c =
+    (1, Torn (tablesOf b))
+    ∷ (7, (Joined (tablesOf b) × Loops (tablesOf b)))
+    ∷ (8, Outside b c)
+    ∷ (9, (Managed (tablesOf b) → ⊥))
+    ∷ []
+
+-- why there is no order, by number
+abbrev pub OutOfOrder : Tables → ℕ → Type 0
+OutOfOrder t number = (Joined t × (number ≡ 7)) ⊎ ((Joined t → ⊥) × (number ≡ 1))
 
 -- row 8, read off the views of the board afterwards
 pub record OutsideBy (down up : List ℕ) (c : Command) : Type 0 where
@@ -44,7 +59,7 @@ pub record OutsideBy (down up : List ℕ) (c : Command) : Type 0 where
   pub outside : AdminBy down up (c .actor) (c .role) → ⊥
 
 abbrev pub DecidedOff : List ℕ → List ℕ → Board → Command → ℕ → Board → Type 0
-DecidedOff down up b c = DecidedBy (before (ScopeBy down up) b c ++ afterwards Disordered (after b c) c) b c
+DecidedOff down up b c = DecidedBy (before (ScopeBy down up) b c ++ late (after b c) c) b c
 
 -- ---- the questions: their rows 2 and 3, and the value read off the two tables
 

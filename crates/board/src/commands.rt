@@ -8,15 +8,16 @@ ghost use Prim.Native.Nat.{ℕ};
 ghost use lib.Dec.{eqb, leb};
 ghost use Rattle.sets.specs.Sets.{bit, _isIn_};
 ghost use Rattle.hierarchy.specs.First.{First};
-ghost use Rattle.hierarchy.specs.Tables.{row};
+ghost use Rattle.hierarchy.specs.Tables.{tables, row, IsTable};
 ghost use Rattle.hierarchy.specs.Views.{ScopeBy};
 ghost use Rattle.board.specs.Boards.{boardOf};
-ghost use Rattle.board.specs.Looks.{Disordered, OutsideBy, DecidedOff};
-ghost use Rattle.board.specs.Commands.{Malformed, needed, scoped, strictly, InScope, before, afterwards, Decided};
+ghost use Rattle.board.specs.Looks.{OutOfOrder, late, OutsideBy, DecidedOff};
+ghost use Rattle.board.specs.Commands.{Malformed, needed, scoped, strictly, InScope, before, Decided};
 use crate::Board;
 use crate::Command;
 use crate::effects::after;
 use crate::looks::look;
+use hierarchy::entries::joined;
 use hierarchy::scopes::administrators;
 use hierarchy::scopes::managed;
 use hierarchy::scopes::scope;
@@ -188,14 +189,25 @@ fn refused_before<'t>(
     6
 }
 
+// Why not all live roles settle: 7, some role reaches itself; or 1, an entry joins a role that isn't live, as on no sound board's way.
+fn out_of_order<'t>(live: u64, i: &'t [u64; 64], a: &'t [u64; 64]) -> u8
+    ensures { λ r. ⌜ OutOfOrder (tables live (now (i .entry)) (now (a .entry))) r ⌝ }
+{
+    if joined(live, i, a) {
+        return 7;
+    }
+    1
+}
+
 // The refusals on the board that the command would leave.
 fn refused_after<'t>(live: u64, i: &'t [u64; 64], a: &'t [u64; 64], c: Command) -> u8
-    ensures { λ r. ⌜ First (afterwards Disordered (boardOf live (now (i .entry)) (now (a .entry))) c) r ⌝ }
+    requires { ⌜ IsTable (now i) × IsTable (now a) ⌝ }
+    ensures { λ r. ⌜ First (late (boardOf live (now (i .entry)) (now (a .entry))) c) r ⌝ }
 {
     let mut down = [0u64; 64];
     let mut up = [0u64; 64];
     if fill_down(live, i, a, &mut down) != live {
-        return 7;
+        return out_of_order(live, i, a);
     }
     fill_up(live, &down, &mut up);
     if outside(&down, &up, c) {

@@ -73,7 +73,7 @@ pub fn derives(b: Board, x: u32, y: u32) -> Derived
     derives_by(b.live, &down, x, y)
 }
 
-// The same, off two views.
+// The same, off the view down.
 pub fn derives_by(live: u64, down: &[u64; 64], x: u32, y: u32) -> Derived
     ensures { λ r. ⌜ DerivesOff live (now (down .entry)) x y (r .number) (r .yes) ⌝ }
 {

@@ -31,7 +31,7 @@ module _ {f : List ℕ} {b : Board} (r : ReadAnswer f 0 b) where
   asked-own : (x y n : ℕ) → First (misnamed (b .live) x y) n → First (askedRefusals f x y) n
   asked-own x y n h =
       first-next (refusals f) (own f x y) n (first-done (refusals f) refl (r .numbered))
-      (first-alike [] [] (misnamed (b .live) x y) (own f x y) n tt (λ _. (refl, Iff·rfl, (refl, dead, tt))) h)
+      (first-alike (misnamed (b .live) x y) (own f x y) [] [] n (refl, Iff·rfl, (refl, dead, tt)) (λ _ g. g) h)
     where
       Dead : Board → Type 0
       Dead d = (x isIn d .live → ⊥) ⊎ (y isIn d .live → ⊥)

@@ -11,7 +11,7 @@ use Rattle.sets.specs.Sets.{bit}
 use Rattle.sets.proofs.Bools.{or-cases, lt-or-ge, not-so, false-no}
 use Rattle.sets.proofs.Laws.{bit-lt}
 use Rattle.hierarchy.specs.Tables.{Shaped}
-use Rattle.hierarchy.specs.Words.{Scope, Loops}
+use Rattle.hierarchy.specs.Words.{Scope}
 use Rattle.hierarchy.specs.First.{First}
 use Rattle.hierarchy.proofs.FirstLaws.{pass, hit, none}
 use Rattle.hierarchy.proofs.Checks.{all-is, any-is, and-is, or-is, if-is, not-is, eq-is, lt-is}
@@ -149,7 +149,7 @@ tried : (k n : ℕ) (rest : List (ℕ × Type 0)) {X : Type 0} {p : Bool} → (p
 tried k n rest {X} {p = true} d f = hit k X rest (d .0 refl)
 tried k n rest {X} {p = false} d f = let fails : X → ⊥ = λ x. false≢true (d .1 x) in pass k X rest n fails (f fails)
 
-afterwards-is : (b : Board) (c : Command) → Shaped (tablesOf b) → First (afterwards Loops b c) (first? (afterwards? b c))
+afterwards-is : (b : Board) (c : Command) → Shaped (tablesOf b) → First (afterwards b c) (first? (afterwards? b c))
 unfolding first?
 afterwards-is b c s =
     tried 7 _ _ (loops-is s) (λ _.
@@ -166,4 +166,4 @@ answer-is b c fits =
     tried 4 _ _ (standing-is b c) (λ _.
     tried 5 _ _ (noEdge-is b c) (λ _.
     tried 6 _ _ (not-is (inScope-is b fits well s)) (λ _.
-    subst (λ d. First (afterwards Loops (after b c) c) (first? (afterwards? d c))) (sym (left-is b c s)) (afterwards-is (after b c) c (shaped-after b c))))))))
+    subst (λ d. First (afterwards (after b c) c) (first? (afterwards? d c))) (sym (left-is b c s)) (afterwards-is (after b c) c (shaped-after b c))))))))

@@ -17,9 +17,14 @@ use Rattle.sets.proofs.Laws.{bit-lt, part-whole}
 use Rattle.hierarchy.specs.Tables.{row}
 use Rattle.hierarchy.specs.Words.{Chain}
 use Rattle.hierarchy.specs.Words.{Chain.stop, Chain.step}
-use Rattle.hierarchy.specs.Views.{Led}
 use Rattle.hierarchy.specs.Compute.{any, spread, grow, close}
 use Rattle.hierarchy.proofs.Checks.{any-is, and-is, or-is}
+
+-- y is led to, through one table alone, from a role of s
+pub record Led (rows : List ℕ) (s y : ℕ) : Type 0 where
+  pub start : ℕ
+  pub member : start isIn s
+  pub chain : Chain rows start y
 
 module _ (t : List ℕ) where
   -- ---- one round

@@ -17,10 +17,9 @@ use Rattle.hierarchy.specs.Tables.{Tables, row, Live, Shaped, kind}
 use Rattle.hierarchy.specs.Words.{Way, Reaches, Derives, Chain, Scope, Administrator, LineManager, Joined, Loops, Managed, Sound}
 use Rattle.hierarchy.specs.Words.{Way.edge, Way.then, Chain.stop, Chain.step}
 use Rattle.hierarchy.specs.Compute.{all, close, derived, derives?, scope?, admin?, manager?, unite, reaches?, loops?, joined?, managed?, shaped?, sound?}
-use Rattle.hierarchy.specs.Views.{Led}
 use Rattle.hierarchy.proofs.Checks.{all-is, any-is, and-is, or-is, if-is, unless-is, not-is, eq-is, lt-is}
 use Rattle.hierarchy.proofs.Derive.{edge-entry, derives↔descends}
-use Rattle.hierarchy.proofs.Closure.{close-fits, close-is, close-one}
+use Rattle.hierarchy.proofs.Closure.{Led, close-fits, close-is, close-one}
 
 -- ---- both tables in one
 

@@ -11,13 +11,7 @@ use Rattle.sets.specs.declared.Pick.the-variants.{Role, Nobody}
 use Rattle.hierarchy.specs.declared.scopes.Climbed.{Climbed}
 use Rattle.hierarchy.specs.declared.scopes.Climbed.the-variants.{Steps, Stopped}
 use Rattle.hierarchy.specs.Tables.{Tables, row, Live, kind}
-use Rattle.hierarchy.specs.Words.{Derives, Chain}
-
--- y is led to, through one table alone, from a role of s
-pub record Led (rows : List ℕ) (s y : ℕ) : Type 0 where
-  pub start : ℕ
-  pub member : start isIn s
-  pub chain : Chain rows start y
+use Rattle.hierarchy.specs.Words.{Derives}
 
 -- down and up are the views of t, a row for each role
 pub record AreViews (t : Tables) (down up : List ℕ) : Type 0 where

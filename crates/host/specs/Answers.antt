@@ -1,5 +1,5 @@
--- What the functions for programs in C answer: one number that holds the refusal number, the place where it arose, and a value. What they
--- are the parts of is what `boardfile` answers.
+-- What the functions for programs in C answer: one number that holds the refusal number, the place where it arose, and a value. These
+-- parts are `boardfile`'s answer.
 use mathlib.Core.Path.{_≡_}
 use mathlib.Core.Bool.{Bool, cond, _||_}
 use mathlib.Core.List.{List}

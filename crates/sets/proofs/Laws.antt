@@ -41,6 +41,9 @@ same-members s t f = ext (s + t) s t
     (le-trans (below-pow t) (pow-mono (omega arith)))
     (λ x _. iff-same (bit s x) (bit t x) (f x .0) (f x .1))
 
+pub same-bits : (s t : ℕ) → ((x : ℕ) → bit s x ≡ bit t x) → s ≡ t
+same-bits s t f = same-members s t (λ x. (λ e. sym (f x) ∙ e, λ e. f x ∙ e))
+
 -- no member: the empty set
 pub no-members : (s : ℕ) → s < 2 ^ 64 → ((x : ℕ) → bit s x ≡ false) → s ≡ 0
 no-members s h e = ext 64 s 0 h (lit< tt) (λ x l. e x ∙ sym (bit-zero x))
@@ -263,10 +266,10 @@ but-lowest-is s = record {
     go r l x true e = ap (λ (q : Bool). bit s x && q) (less-one r s x (l .member) (λ y k. not-so (bit s y) (λ m. absurd (omega (arith, l .least y m)))) e ∙ ap not (sym (same-is r x (l .role))))
     go r l x false e = ap (λ (q : Bool). q && bit (s - 1) x) e ∙ sym (ap (λ (q : Bool). q && not (same? r x)) e)
 
-pub but-lowest-unique : (s t u : ℕ) → s < 2 ^ 64 → t < 2 ^ 64 → u < 2 ^ 64 → ButLowest s t → ButLowest s u → t ≡ u
-but-lowest-unique s t u fs ft fu b c = dite (ℕ-discrete s 0)
-    (λ z. let n : NoRole s = record { none = λ x. ap (λ (k : ℕ). bit k x) z ∙ bit-zero x } in ext 64 t u ft fu (λ x _. b .none n .none x ∙ sym (c .none n .none x)))
+pub but-lowest-unique : (s t u : ℕ) → s < 2 ^ 64 → ButLowest s t → ButLowest s u → t ≡ u
+but-lowest-unique s t u fs b c = dite (ℕ-discrete s 0)
+    (λ z. let n : NoRole s = record { none = λ x. ap (λ (k : ℕ). bit k x) z ∙ bit-zero x } in same-bits t u (λ x. b .none n .none x ∙ sym (c .none n .none x)))
     (λ z.
     let p : 0 < s = omega arith in
     let l : LowestRole s (trailingZeros 64 s) = record { role = lowest-lt s p fs; member = bit-lowest 64 s p fs; least = λ x e. lowest-least 64 s x e } in
-    ext 64 t u ft fu (λ x _. b .rest (trailingZeros 64 s) l x ∙ sym (c .rest (trailingZeros 64 s) l x)))
+    same-bits t u (λ x. b .rest (trailingZeros 64 s) l x ∙ sym (c .rest (trailingZeros 64 s) l x)))
