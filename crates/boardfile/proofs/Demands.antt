@@ -10,13 +10,14 @@ use native.Mathlib.Omega.{arith}
 use lib.Count.{ones}
 use lib.ListN.{take, drop}
 use Rattle.hierarchy.specs.Tables.{Live}
-use Rattle.hierarchy.specs.Words.{LineManager, Sound, Climb}
+use Rattle.hierarchy.specs.Words.{Scope, LineManager, Sound, Climb}
 use Rattle.hierarchy.specs.First.{First}
 use Rattle.hierarchy.proofs.ClimbLaws.{Distinct, met}
+use Rattle.hierarchy.proofs.FirstLaws.{first-unique, pass, none}
 use Rattle.hierarchy.proofs.Theorems.{no-manager, one-manager, one-climb, one-way, climb-distinct, climb-short}
 use Rattle.board.specs.Boards.{tablesOf, foundingBoard}
 use Rattle.board.specs.Effects.{after}
-use Rattle.board.specs.Commands.{edgeKind, Decided}
+use Rattle.board.specs.Commands.{edgeKind, before, afterwards, Decided}
 use Rattle.board.specs.Commands.{refusals as commandRefusals}
 use Rattle.board.specs.Questions.{DerivesAnswer, ScopeAnswer, ManagerAnswer, StepsAnswer}
 use Rattle.board.specs.declared.Board.{Board}
@@ -24,12 +25,12 @@ use Rattle.board.specs.declared.Command.{Command}
 use Rattle.board.specs.declared.questions.Manager.{Manager}
 use Rattle.board.proofs.Founding.{founding-sound}
 use Rattle.board.proofs.Kept.{sound-after, idle-change}
-use Rattle.board.proofs.Rules.{stable, first-done}
+use Rattle.board.proofs.Rules.{Passed, stable, first-done, first-next}
 use Rattle.board.proofs.Settled.{decided-unique, derives-unique, scope-unique, manager-answer-unique, steps-unique}
 use Rattle.hierarchy.proofs.Decide.{sound-dec}
 use Rattle.boardfile.specs.declared.commands.Place.{Place}
 use Rattle.boardfile.specs.Files.{fileOf}
-use Rattle.boardfile.specs.Answers.{refusals, ReadAnswer, DerivesOnFile, ScopeOnFile, ManagerOnFile, StepsOnFile, StretchOf, Placed, writeRefusals, WriteAnswer}
+use Rattle.boardfile.specs.Answers.{refusals, ReadAnswer, DerivesOnFile, ScopeOnFile, ManagerOnFile, StepsOnFile, StretchOf, Placed, Unplaced, writeRefusals, WriteAnswer}
 use Rattle.boardfile.specs.Answers.{CommandAnswer, CommandAnswer.unread, CommandAnswer.refused, CommandAnswer.no-room, CommandAnswer.done}
 use Rattle.boardfile.specs.Reached.{Reached, Reached.founding, Reached.file, Reached.command}
 use Rattle.boardfile.proofs.Settled.{read-unique, write-unique, derives-file-unique, scope-file-unique, manager-file-unique, steps-file-unique, stretch-unique, command-unique}
@@ -67,10 +68,10 @@ file-ends {f} {board} {number} r = dite (ℕ-discrete number 0)
 
 -- writing: with the file at its place, or with 1 or 12 and the buffer as it was
 pub writing-ends : {b : Board} {entry exit : List ℕ} {at number len : ℕ} → WriteAnswer b entry at exit number len
-    → ((number ≡ 0) × Placed b entry at exit len) ⊎ (Among number (writeRefusals b entry at) × (exit ≡ entry))
+    → ((number ≡ 0) × Placed b entry at exit len) ⊎ (Among number (writeRefusals b entry at) × Unplaced entry exit len)
 writing-ends {b} {entry} {at = at} {number = number} w = dite (ℕ-discrete number 0)
     (λ e. inl (e, w .done e))
-    (λ n. inr (refused-among (writeRefusals b entry at) number (w .numbered) n, w .refused n .1))
+    (λ n. inr (refused-among (writeRefusals b entry at) number (w .numbered) n, w .refused n))
 
 -- a command on the board in a file: with the file of the board afterwards in the buffer, or with a refusal of the file, of the command on
 -- its board, or of the writing, and the buffer as it was
@@ -80,12 +81,13 @@ Refused f c entry number =
     ⊎ ((b : Board) × ReadAnswer f 0 b × (Among number (commandRefusals b c) ⊎ Among number (writeRefusals (after b c) entry 0)))
 
 pub file-command-ends : {f : List ℕ} {c : Command} {entry exit : List ℕ} {place : Place} {number len : ℕ} → CommandAnswer f c entry exit place number len
-    → ((number ≡ 0) × ((b : Board) × ReadAnswer f 0 b × (take len exit ≡ fileOf (after b c)))) ⊎ (Refused f c entry number × (exit ≡ entry))
-file-command-ends {f} (unread {number = n} r z e) = inr (inl (refused-among (refusals f) n (r .numbered) z), e)
-file-command-ends {c = c} (refused {number = n} {b = b} r d z e) = inr (inr (b, r, inl (refused-among (commandRefusals b c) n (d .numbered) z)), e)
+    → ((number ≡ 0) × ((b : Board) × ReadAnswer f 0 b × Placed (after b c) entry 0 exit len)) ⊎ (Refused f c entry number × Unplaced entry exit len)
+file-command-ends {f} (unread {number = n} r z e) = inr (inl (refused-among (refusals f) n (r .numbered) z), (refl, e))
+file-command-ends {c = c} (refused {number = n} {b = b} r d z e) = inr (inr (b, r, inl (refused-among (commandRefusals b c) n (d .numbered) z)), (refl, e))
 file-command-ends {c = c} {entry = entry} (no-room {b = b} {next = next} r d w) =
-    inr (inr (b, r, inr (inr (inl refl))), w .refused (λ e. absurd (omega (arith, e))) .1)
-file-command-ends (done {b = b} r d w) = inl (refl, (b, r, written-file w ∙ ap fileOf (d .done refl)))
+    inr (inr (b, r, inr (inr (inl refl))), w .refused (λ e. absurd (omega (arith, e))))
+file-command-ends {entry = entry} {exit = exit} {len = len} (done {b = b} r d w) =
+    inl (refl, (b, r, subst (λ (x : Board). Placed x entry 0 exit len) (d .done refl) (w .done refl)))
 
 -- ---- demand 2: the answer is the one that document 01 states, and no other. What it states is `Decided`, `DerivesAnswer`, `ScopeAnswer`,
 -- `ManagerAnswer` and `StepsAnswer` on a board, and `ReadAnswer`, `WriteAnswer`, `StretchOf`, the four `..OnFile` and `CommandAnswer` on files.
@@ -100,6 +102,14 @@ same-kind-again {b} {next} {c} {number} d e same = dite (ℕ-discrete number 0)
     let passed = first-done (commandRefusals b c) refl (subst (First (commandRefusals b c)) z (d .numbered)) in
     d .done z ∙ idle-change b c (stable (sound-dec (tablesOf b)) (passed .0) .shaped) e same)
     (λ n. d .refused n)
+
+-- and where none of 1 to 6 holds, it is done
+pub same-kind-done : {b next : Board} {c : Command} {number : ℕ} → Decided b c number next → Sound (tablesOf b) → Passed (before (Scope (tablesOf b)) b c)
+    → c .code ≡ 5 → edgeKind b c ≡ c .kind → number ≡ 0
+same-kind-done {b} {c = c} {number = number} d s passed e same = first-unique (commandRefusals b c) number 0 (d .numbered)
+    (pass _ _ _ _ (λ k. k s) (first-next (before (Scope (tablesOf b)) b c) (afterwards (after b c) c) 0 passed
+    (subst (λ (x : Board). First (afterwards x c) 0) (sym (idle-change b c (s .shaped) e same))
+    (pass _ _ _ _ (s .loopless) (pass _ _ _ _ (λ o. absurd (omega (arith, o .adds, e))) (pass _ _ _ _ (λ n. n (s .managed)) none))))))
 
 module _ (b : Board) where
   pub one-derives : (x y : ℕ) {m n : ℕ} {p q : Bool} → DerivesAnswer b x y m p → DerivesAnswer b x y n q → (m ≡ n) × (p ≡ q)
