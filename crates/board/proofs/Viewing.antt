@@ -4,10 +4,11 @@ use mathlib.Core.Bool.{Bool}
 use mathlib.Core.Logic.{inl, inr, _↔_, Iff·rfl, Iff·trans}
 use mathlib.Core.List.{List, [], _∷_}
 use Prim.Native.Nat.{ℕ}
-use Rattle.hierarchy.specs.Words.{Scope, Joined, Loops, Managed, Climb}
+use Rattle.hierarchy.specs.Words.{Scope, Managed, Climb}
 use Rattle.hierarchy.specs.First.{First}
-use Rattle.hierarchy.specs.Views.{ScopeBy}
+use Rattle.hierarchy.specs.Views.{LiveLoops, ScopeBy}
 use Rattle.hierarchy.proofs.FirstLaws.{pass}
+use Rattle.hierarchy.proofs.Order.{joined-inward, joined-loops}
 use Rattle.hierarchy.proofs.ViewLaws.{scope-by, managing-by, managing-nobody, climbing-by, climbing-stopped}
 use Rattle.board.specs.Boards.{tablesOf}
 use Rattle.board.specs.Effects.{after}
@@ -45,9 +46,9 @@ module _ {b : Board} {down up : List ℕ} (v : Viewed b down up) where
       whole : Passed (before (ScopeBy down up) b c) → First (late (after b c) c) n → First (afterwards (after b c) c) n
       whole p h =
           let joined = joined-after b c (v .sound .joined) (p .0) (p .1 .0) in
-          let rows : List (ℕ × Type 0) = (7, (Joined (tablesOf (after b c)) × Loops (tablesOf (after b c)))) ∷ (8, Outside (after b c) c) ∷ (9, (Managed (tablesOf (after b c)) → ⊥)) ∷ [] in
-          first-alike rows (afterwards (after b c) c) [] [] n (refl, (λ w. w .1, λ l. (joined, l)), (refl, Iff·rfl, (refl, Iff·rfl, tt))) (λ _ f. f)
-          (first-without 1 _ rows n (λ (k : Torn (tablesOf (after b c))). k .unjoined joined) h)
+          let rows : List (ℕ × Type 0) = (7, LiveLoops (tablesOf (after b c))) ∷ (8, Outside (after b c) c) ∷ (9, (Managed (tablesOf (after b c)) → ⊥)) ∷ [] in
+          first-alike rows (afterwards (after b c) c) [] [] n (refl, joined-loops joined, (refl, Iff·rfl, (refl, Iff·rfl, tt))) (λ _ f. f)
+          (first-without 1 _ rows n (λ (k : Torn (tablesOf (after b c))). k .outward (joined-inward _ joined)) h)
 
   -- ---- the questions
 

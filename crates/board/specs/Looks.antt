@@ -8,8 +8,8 @@ use Prim.Native.Nat.{ℕ}
 use Rattle.sets.specs.Sets.{_isIn_}
 use Rattle.sets.specs.declared.Pick.the-variants.{Role as One, Nobody as None}
 use Rattle.hierarchy.specs.Tables.{Tables, row}
-use Rattle.hierarchy.specs.Views.{AreViews, InOrder, ScopeBy, AdminBy, Managing, Climbing}
-use Rattle.hierarchy.specs.Words.{Joined, Loops, Managed, Sound}
+use Rattle.hierarchy.specs.Views.{AreViews, InOrder, Inward, LiveLoops, ScopeBy, AdminBy, Managing, Climbing}
+use Rattle.hierarchy.specs.Words.{Managed, Sound}
 use Rattle.hierarchy.specs.declared.scopes.Climbed.the-variants.{Steps, Stopped}
 use Rattle.board.specs.Boards.{tablesOf}
 use Rattle.board.specs.Effects.{after}
@@ -34,24 +34,24 @@ pub record Viewed (b : Board) (down up : List ℕ) : Type 0 where
 
 -- ---- a command: document 01's rows, with scope read off the two tables
 
--- The board that the command would leave shows that the one handed in was not sound: its live roles are not in order, and an entry joins
--- a role that isn't live. A board's soundness is not looked at before, and this row is tried where the work comes to a halt on it.
+-- The board that the command would leave shows that the one handed in was not sound: its live roles are not in order, and one has a junior
+-- that isn't live. Soundness is not looked at before, and this row is tried where the work comes to a halt on it.
 pub record Torn (t : Tables) : Type 0 where
   pub disordered : InOrder t → ⊥
-  pub unjoined : Joined t → ⊥
+  pub outward : Inward t → ⊥
 
--- row 7 where the board that would be left has such entries and can be weighed all the same: only a loop of roles that are joined counts
+-- the rows afterwards; a loop is one of live roles, as every loop of a sound board's roles would be
 abbrev pub late : Board → Command → List (ℕ × Type 0)
 late b c =
     (1, Torn (tablesOf b))
-    ∷ (7, (Joined (tablesOf b) × Loops (tablesOf b)))
+    ∷ (7, LiveLoops (tablesOf b))
     ∷ (8, Outside b c)
     ∷ (9, (Managed (tablesOf b) → ⊥))
     ∷ []
 
 -- why there is no order, by number
 abbrev pub OutOfOrder : Tables → ℕ → Type 0
-OutOfOrder t number = (Joined t × (number ≡ 7)) ⊎ ((Joined t → ⊥) × (number ≡ 1))
+OutOfOrder t number = (Inward t × (number ≡ 7)) ⊎ ((Inward t → ⊥) × (number ≡ 1))
 
 -- row 8, read off the views of the board afterwards
 pub record OutsideBy (down up : List ℕ) (c : Command) : Type 0 where

@@ -17,13 +17,15 @@ use crate::Board;
 use crate::Command;
 use crate::effects::after;
 use crate::looks::look;
-use hierarchy::entries::joined;
 use hierarchy::scopes::administrators;
 use hierarchy::scopes::managed;
 use hierarchy::scopes::scope;
 use hierarchy::views::fill_down;
 use hierarchy::views::fill_up;
+use sets::Pick;
+use sets::but_lowest;
 use sets::has;
+use sets::lowest;
 use sets::minus;
 use sets::single;
 use sets::union;
@@ -189,14 +191,20 @@ fn refused_before<'t>(
     6
 }
 
-// Why not all live roles settle: 7, some role reaches itself; or 1, an entry joins a role that isn't live, as on no sound board's way.
+// Why not all live roles settle: 7, some role reaches itself; or 1, a live role has a junior that isn't live, as after no sound board.
 fn out_of_order<'t>(live: u64, i: &'t [u64; 64], a: &'t [u64; 64]) -> u8
     ensures { λ r. ⌜ OutOfOrder (tables live (now (i .entry)) (now (a .entry))) r ⌝ }
 {
-    if joined(live, i, a) {
-        return 7;
+    let mut rest = live;
+    loop {
+        let Pick::Role(x) = lowest(rest) else {
+            return 7;
+        };
+        if !within(union(i[x], a[x]), live) {
+            return 1;
+        }
+        rest = but_lowest(rest);
     }
-    1
 }
 
 // The refusals on the board that the command would leave.

@@ -1,6 +1,6 @@
 -- Start here: the three demands of document 01 as theorems, each with the names of what it rests on. That a call always ends, and that
 -- its answer is as its promise says, is proved of each function by itself; these are about the promises. Assumes nothing.
-use mathlib.Core.Path.{_≡_, refl, sym, ap, _∙_, subst}
+use mathlib.Core.Path.{_≡_, refl, sym, _∙_, subst}
 use mathlib.Core.Bool.{Bool}
 use mathlib.Core.Logic.{_⊎_, inl, inr, ⊎-elim, ⊎-map, _≢_, _↔_, dite}
 use mathlib.Core.List.{List, [], _∷_}

@@ -16,7 +16,8 @@ use Rattle.sets.proofs.Laws.{bit-lt, in-setOf}
 use Rattle.hierarchy.specs.Tables.{Tables, row, Live, Shaped, kind}
 use Rattle.hierarchy.specs.Words.{Way, Reaches, Derives, Chain, Scope, Administrator, LineManager, Joined, Loops, Managed, Sound}
 use Rattle.hierarchy.specs.Words.{Way.edge, Way.then, Chain.stop, Chain.step}
-use Rattle.hierarchy.specs.Compute.{all, close, derived, derives?, scope?, admin?, manager?, unite, reaches?, loops?, joined?, managed?, shaped?, sound?}
+use Rattle.hierarchy.specs.Views.{LiveLoops}
+use Rattle.hierarchy.specs.Compute.{all, any, close, derived, derives?, scope?, admin?, manager?, unite, reaches?, loops?, joined?, managed?, shaped?, sound?}
 use Rattle.hierarchy.proofs.Checks.{all-is, any-is, and-is, or-is, if-is, unless-is, not-is, eq-is, lt-is}
 use Rattle.hierarchy.proofs.Derive.{edge-entry, derives↔descends}
 use Rattle.hierarchy.proofs.Closure.{Led, close-fits, close-is, close-one}
@@ -146,6 +147,9 @@ module _ {t : Tables} (shaped : Shaped t) where
 
   pub loops-dec : Dec (Loops t)
   loops-dec = decided (loops? t) loops-is
+
+  pub live-loops-dec : Dec (LiveLoops t)
+  live-loops-dec = decided (any 64 (λ x. bit (t .live) x && reaches? t x x)) (any-is 64 (λ x. and-is Iff·rfl (λ _. reaches-is x x)) (λ x w. way-lt (w .1 .1)))
 
   pub joined-dec : Dec (Joined t)
   joined-dec = decided (joined? t) joined-is

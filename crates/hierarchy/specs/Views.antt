@@ -11,7 +11,7 @@ use Rattle.sets.specs.declared.Pick.the-variants.{Role, Nobody}
 use Rattle.hierarchy.specs.declared.scopes.Climbed.{Climbed}
 use Rattle.hierarchy.specs.declared.scopes.Climbed.the-variants.{Steps, Stopped}
 use Rattle.hierarchy.specs.Tables.{Tables, row, Live, kind}
-use Rattle.hierarchy.specs.Words.{Derives}
+use Rattle.hierarchy.specs.Words.{Reaches, Derives}
 
 -- down and up are the views of t, a row for each role
 pub record AreViews (t : Tables) (down up : List ℕ) : Type 0 where
@@ -28,6 +28,13 @@ pub data Settles (t : Tables) : ℕ → Type 0 where
 -- (`Rattle.hierarchy.proofs.Order`, `order-loopless`).
 abbrev pub InOrder : Tables → Type 0
 InOrder t = (x : ℕ) → Live t x → Settles t x
+
+-- The juniors of live roles are live. This much is enough for order to be that no live role reaches itself (`inward-order`).
+abbrev pub Inward : Tables → Type 0
+Inward t = (x y : ℕ) → Live t x → kind t x y ≢ 0 → Live t y
+
+abbrev pub LiveLoops : Tables → Type 0
+LiveLoops t = (x : ℕ) × (Live t x × Reaches t x x)
 
 -- Which roles settle; and each row of down is what its role derives, where that settles, else blank.
 pub record Settled (t : Tables) (settled : ℕ) (down : List ℕ) : Type 0 where

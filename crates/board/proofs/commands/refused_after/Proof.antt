@@ -38,19 +38,19 @@ outside-requires : tie.Need-outside-requires
 outside-requires c κs = search needs
 
 returns-2 : tie.Need-returns-2
-returns-2 c = late-ordered (left (c .before .before .before .before .before .before .before .before .before .before)) _ _ (shaped (c .before .before .before .before .before .before .before .before .before .before)) (in-order-is (c .before .before .before .before .before .before .before .before .fill-down .ensures) .0 (c .before .before .before .before .before .before .before .if1 .left)) (hit _ _ _ (holds (outside-at (c .before)) (c .if2 .taken)))
+returns-2 c = late-ordered (left (c .before .before .before .before .before .before .before .before .before .before)) _ _ (in-order-is (c .before .before .before .before .before .before .before .before .fill-down .ensures) .0 (c .before .before .before .before .before .before .before .if1 .left)) (hit _ _ _ (holds (outside-at (c .before)) (c .if2 .taken)))
 
 managed-requires : tie.Need-managed-requires
 managed-requires c κs = search needs
 
 returns-3 : tie.Need-returns-3
 returns-3 c =
-    late-ordered (left (c .before .before .before .before .before .before .before .before .before .before .before .before .before .before)) _ _ (shaped (c .before .before .before .before .before .before .before .before .before .before .before .before .before .before)) (in-order-is (c .before .before .before .before .before .before .before .before .before .before .before .before .fill-down .ensures) .0 (c .before .before .before .before .before .before .before .before .before .before .before .if1 .left))
+    late-ordered (left (c .before .before .before .before .before .before .before .before .before .before .before .before .before .before)) _ _ (in-order-is (c .before .before .before .before .before .before .before .before .before .before .before .before .fill-down .ensures) .0 (c .before .before .before .before .before .before .before .before .before .before .before .if1 .left))
     (pass _ _ _ _ (fails (outside-at (c .before .before .before .before .before)) (c .before .before .before .before .if2 .left)) (pass _ _ _ _ (λ n. n (managed-by (settled-views (c .before .before .before .before .before .before .before .before .before .before .before .before .fill-down .ensures) (c .before .before .before .before .before .before .before .before .before .before .before .if1 .left) (c .before .before .before .before .before .before .before .before .fill-up .ensures)) .0 (holds (c .before .managed .ensures) (c .if3 .taken)))) none))
 
 returns-4 : tie.Need-returns-4
 returns-4 c =
-    late-ordered (left (c .before .before .before .before .before .before .before .before .before .before .before .before .before .before)) _ _ (shaped (c .before .before .before .before .before .before .before .before .before .before .before .before .before .before)) (in-order-is (c .before .before .before .before .before .before .before .before .before .before .before .before .fill-down .ensures) .0 (c .before .before .before .before .before .before .before .before .before .before .before .if1 .left))
+    late-ordered (left (c .before .before .before .before .before .before .before .before .before .before .before .before .before .before)) _ _ (in-order-is (c .before .before .before .before .before .before .before .before .before .before .before .before .fill-down .ensures) .0 (c .before .before .before .before .before .before .before .before .before .before .before .if1 .left))
     (pass _ _ _ _ (fails (outside-at (c .before .before .before .before .before)) (c .before .before .before .before .if2 .left)) (hit _ _ _ (λ m. fails (c .before .managed .ensures) (c .if3 .left) (managed-by (settled-views (c .before .before .before .before .before .before .before .before .before .before .before .before .fill-down .ensures) (c .before .before .before .before .before .before .before .before .before .before .before .if1 .left) (c .before .before .before .before .before .before .before .before .fill-up .ensures)) .1 m))))
 
 pub refused-after-spec : {M : Type 1} → statement M
