@@ -6,15 +6,12 @@ use mathlib.Core.List.{List}
 use Prim.Native.Nat.{ℕ, _<_}
 use native.Mathlib.Omega.{arith}
 use Rattle.sets.specs.Sets.{bit, _isIn_}
-use Rattle.sets.specs.declared.Pick.{Pick}
-use Rattle.sets.specs.declared.Pick.the-variants.{Role as One}
 use Rattle.sets.proofs.Bools.{true-or-false, false-no, lt-or-ge}
 use Rattle.hierarchy.specs.Words.{Sound}
 use Rattle.hierarchy.specs.First.{First}
-use Rattle.hierarchy.specs.Views.{IsRole}
 use Rattle.hierarchy.proofs.Decide.{sound-dec}
 use Rattle.hierarchy.proofs.FirstLaws.{hit, pass, none}
-use Rattle.board.specs.Boards.{tablesOf}
+use Rattle.board.specs.Boards.{tablesOf, SoundBoard}
 use Rattle.board.specs.Questions.{misnamed, refusals, Answered}
 use Rattle.board.specs.declared.Board.{Board}
 use Rattle.board.proofs.Rules.{stable, first-done}
@@ -52,11 +49,14 @@ asked live x y n f z =
     }
 
 -- and of any board
-pub asked-1 : (b : Board) (x y : ℕ) → (Sound (tablesOf b) → ⊥) → First (refusals b x y) 1
+pub asked-1 : (b : Board) (x y : ℕ) → (SoundBoard b → ⊥) → First (refusals b x y) 1
 asked-1 b x y n = hit _ _ _ n
 
+-- what is not refused is asked of sound tables
 pub asked-sound : (b : Board) (x y n : ℕ) → First (refusals b x y) n → n ≡ 0 → Sound (tablesOf b)
-asked-sound b x y n f z = stable (sound-dec (tablesOf b)) (first-done (refusals b x y) refl (subst (First (refusals b x y)) z f) .0)
+asked-sound b x y n f z =
+    let rows = first-done (refusals b x y) refl (subst (First (refusals b x y)) z f) in
+    stable (sound-dec (tablesOf b)) (λ k. rows .0 (λ s. k (s .sound)))
 
 -- ---- an answer, by its number
 
@@ -68,14 +68,10 @@ module _ {A : Type 0} {rules : List (ℕ × Type 0)} {Right : A → Type 0} {non
   answer-done z h = record { numbered = f; done = λ _. h; refused = λ k. absurd (k z) }
 
 -- of a board that isn't sound
-pub answer-unsound : {A : Type 0} {Right : A → Type 0} {none : A} (b : Board) (x y : ℕ) → (Sound (tablesOf b) → ⊥) → Answered (refusals b x y) Right none 1 none
+pub answer-unsound : {A : Type 0} {Right : A → Type 0} {none : A} (b : Board) (x y : ℕ) → (SoundBoard b → ⊥) → Answered (refusals b x y) Right none 1 none
 answer-unsound b x y n = answer-refused (asked-1 b x y n) (λ k. omega (arith, k))
 
 -- what is the same whatever the table and the words: a value that is right by the one is right by the other
 pub answer-as : {A : Type 0} {rules rules′ : List (ℕ × Type 0)} {Right Right′ : A → Type 0} {none v : A} {n : ℕ}
     → (First rules n → First rules′ n) → (n ≡ 0 → Right v → Right′ v) → Answered rules Right none n v → Answered rules′ Right′ none n v
 answer-as f g a = record { numbered = f (a .numbered); done = λ z. g z (a .done z); refused = a .refused }
-
--- the line manager is a role, so it fits a byte
-pub manager-lt : {m : ℕ} (p : Pick) → p ≡ One m → IsRole p → m < 64
-manager-lt p e h = subst IsRole e h

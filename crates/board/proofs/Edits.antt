@@ -15,11 +15,10 @@ use Rattle.sets.proofs.Bools.{true-or-false, and-left, and-right, false-no, lt-
 use Rattle.sets.proofs.Digits.{bit-zero}
 use Rattle.sets.proofs.Laws.{same-is, same-out, same-eq, same-self, setOf-fits, bit-setOf, is-setOf, bit-lt}
 use Rattle.sets.proofs.Members.{Taken, taken-part}
-use Rattle.hierarchy.specs.Tables.{row, IsTable}
+use Rattle.hierarchy.specs.Tables.{Tables, tables, row, IsTable}
 use Rattle.board.specs.Effects.{hasI, hasA, lives, listOf, pair, entry, tableAfter, after}
 use Rattle.hierarchy.proofs.Rows.{row-set as by-row}
 use Rattle.board.specs.Rows.{RowSet, Entered, Left}
-use Rattle.board.specs.declared.Board.{Board}
 use Rattle.board.specs.declared.Command.{Command}
 
 pub cond-true : {A : Type 0} {p : Bool} (u v : A) → p ≡ true → cond p u v ≡ u
@@ -280,7 +279,7 @@ module _ (c : Command) (s j : ℕ) (p : Bool) (t : List ℕ) where
       (λ e. sym (entry-else c s j p o x y e1 e2 (eqb-false (c .code) 3 e) e4 e5))
       (true-or-false (eqb (c .code) 3)))
 
--- ---- the live roles, and the whole board
+-- ---- the live roles, and all three
 
 module _ (c : Command) (s r : ℕ) (fits : r < 2 ^ 64) where
   pub born : c .code ≡ 1 → ((x : ℕ) → bit r x ≡ (bit s x || same? (c .role) x)) → r ≡ setOf (λ x. lives c (bit s x) x)
@@ -295,9 +294,9 @@ module _ (c : Command) (s r : ℕ) (fits : r < 2 ^ 64) where
   unfolding lives
   living e1 e2 h = is-setOf r _ fits (λ x l. h x ∙ rw (ne-eqb (c .code) 1 e1, ne-eqb (c .code) 2 e2))
 
-pub board-is : (b : Board) (c : Command) (live : ℕ) (i a : List ℕ) (p q : Bool) → live ≡ setOf (λ x. lives c (bit (b .live) x) x)
+pub tables-are : (b : Tables) (c : Command) (live : ℕ) (i a : List ℕ) (p q : Bool) → live ≡ setOf (λ x. lives c (bit (b .live) x) x)
     → p ≡ hasI (c .kind) → i ≡ tableAfter c (c .«i_seniors») (c .«i_juniors») p (b .i)
     → q ≡ hasA (c .kind) → a ≡ tableAfter c (c .«a_seniors») (c .«a_juniors») q (b .a)
-    → _≡_ {A = Board} record { live = live; i = i; a = a } (after b c)
+    → tables live i a ≡ after b c
 unfolding after
-board-is b c live i a p q hl hp hi hq ha = rw (hl, hi, ha, hp, hq)
+tables-are b c live i a p q hl hp hi hq ha = rw (hl, hi, ha, hp, hq)

@@ -1,6 +1,6 @@
--- What the proofs of the functions stand on, and three theorems on the contracts: Kept (a done command leaves a sound board), Settled
+-- What the proofs of the functions stand on, and three theorems on the contracts: SoundAfter (a done command leaves a sound board), Settled
 -- (a contract allows one answer) and Viewing (what is read off a sound board's own views is document 01's answer).
-pub mod Kept
+pub mod SoundAfter
 pub mod Settled
 pub mod Viewing
 pub mod Founding
@@ -9,5 +9,6 @@ pub mod Edits
 pub mod Looking
 pub mod Trying
 pub mod Asking
-pub mod Lies
+pub mod Reading
+pub mod Fields
 pub mod Values

@@ -1,27 +1,27 @@
 -- What a look at a board is made of. Assumes nothing.
-use mathlib.Core.Path.{_≡_, sym, subst, _∙_}
+use mathlib.Core.Path.{_≡_, refl, sym, subst, _∙_}
 use mathlib.Core.Bool.{Bool, true, false, _||_, false≢true}
 use mathlib.Core.Logic.{_⊎_, inl, inr, ⊎-elim, ⊎-map, _≢_, _↔_, Iff·rfl, Iff·symm, Iff·trans}
 use mathlib.Core.List.{List, [], _∷_}
 use Prim.Native.Nat.{ℕ}
+use native.Mathlib.Omega.{arith}
 use Rattle.sets.specs.Sets.{bit, _isIn_, _areIn_, NoRole}
 use Rattle.sets.proofs.Members.{Taken, taken-part, taken-kept}
 use Rattle.hierarchy.specs.Tables.{Tables, tables, row, kind, Live, Shaped}
 use Rattle.hierarchy.specs.First.{First}
 use Rattle.hierarchy.specs.Words.{Joined, Loops, Managed, Sound}
-use Rattle.hierarchy.specs.Views.{AreViews, InOrder, Inward, Settled, Turned, ManagedBy}
+use Rattle.hierarchy.specs.Views.{InOrder, Inward, LiveLoops, RightValues, WorkedOut}
 use Rattle.hierarchy.proofs.Checks.{or-is}
 use Rattle.hierarchy.proofs.Derive.{edge-entry}
-use Rattle.hierarchy.proofs.Decide.{loops-dec, live-loops-dec}
-use Rattle.hierarchy.proofs.FirstLaws.{hit, pass}
+use Rattle.hierarchy.proofs.Decide.{loops-dec, live-loops-dec, managed-dec}
+use Rattle.hierarchy.proofs.FirstLaws.{hit, pass, passed, none, first-unique}
 use Rattle.hierarchy.proofs.Order.{order-no-loop, inward-order, order-loopless}
-use Rattle.hierarchy.proofs.ViewLaws.{admin-by, in-order-is, settled-views}
-use Rattle.board.specs.Boards.{tablesOf}
+use Rattle.hierarchy.proofs.ManagerLaws.{values-unique}
+use Rattle.board.specs.Boards.{boardOf, SoundBoard}
 use Rattle.board.specs.Commands.{Outside}
-use Rattle.board.specs.Looks.{Seen, Viewed, OutOfOrder, late}
-use Rattle.board.specs.declared.Board.{Board}
+use Rattle.board.specs.Looks.{OutOfOrder, late}
 use Rattle.board.specs.declared.Command.{Command}
-use Rattle.board.proofs.Rules.{stable}
+use Rattle.board.proofs.Rules.{stable, first-done, first-without}
 
 -- ---- a test that decides P, by its answer
 
@@ -34,13 +34,7 @@ fails f e x = false≢true (sym e ∙ f .1 x)
 pub never : {P : Type 0} → (P → ⊥) → (false ≡ true) ↔ P
 never n = (λ e. absurd (false≢true e), λ x. absurd (n x))
 
--- ---- of views
-
-pub managed-by : {t : Tables} {down up : List ℕ} → AreViews t down up → ManagedBy (t .live) down up ↔ Managed t
-managed-by v = (
-  λ h r l n. let a = h r l n in (a .0, admin-by v .0 (a .1)),
-  λ h r l n. let a = h r l n in (a .0, admin-by v .1 (a .1)),
-)
+-- ---- order
 
 -- where entries join live roles, what is out of order has a loop
 pub disordered-loops : {t : Tables} → Shaped t → Joined t → (InOrder t → ⊥) ↔ Loops t
@@ -78,45 +72,61 @@ module _ (live : ℕ) (i a : List ℕ) (x both : ℕ) (w : Bool) (both-is : (y :
 pub looked-in : (live : ℕ) (i a : List ℕ) {rest : ℕ} → NoRole rest → Looked live i a rest → Inward (tables live i a)
 looked-in live i a empty inv x y l h = ⊎-elim (λ m. absurd (false≢true (sym (empty .none x) ∙ m))) (λ f. f y h) (inv .done x l)
 
--- ---- the rows on the board that a command would leave, by whether it is in order
+-- ---- the rows on the tables that a command would leave, by whether they are in order
 
-pub late-disordered : (b : Board) (c : Command) (n : ℕ) → Shaped (tablesOf b) → (InOrder (tablesOf b) → ⊥) → OutOfOrder (tablesOf b) n → First (late b c) n
-late-disordered b c n shaped without (inl w) =
-    subst (First (late b c)) (sym (w .1)) (pass _ _ _ _ (λ k. k .outward (w .0))
+pub late-disordered : (t : Tables) (c : Command) (n : ℕ) → Shaped t → (InOrder t → ⊥) → OutOfOrder t n → First (late t c) n
+late-disordered t c n shaped without (inl w) =
+    subst (First (late t c)) (sym (w .1)) (pass _ _ _ _ (λ k. k .outward (w .0))
     (hit _ _ _ (stable (live-loops-dec shaped) (λ m. without (inward-order (shaped .live-fits) (w .0) .1 m)))))
-late-disordered b c n shaped without (inr w) = subst (First (late b c)) (sym (w .1)) (hit _ _ _ (record { disordered = without; outward = w .0 }))
+late-disordered t c n shaped without (inr w) = subst (First (late t c)) (sym (w .1)) (hit _ _ _ (record { disordered = without; outward = w .0 }))
 
-pub late-ordered : (b : Board) (c : Command) (n : ℕ) → InOrder (tablesOf b)
-    → First ((8, Outside b c) ∷ (9, (Managed (tablesOf b) → ⊥)) ∷ []) n → First (late b c) n
-late-ordered b c n order f = pass _ _ _ _ (λ k. k .disordered order) (pass _ _ _ _ (order-no-loop order) f)
+pub late-ordered : (t : Tables) (c : Command) (n : ℕ) → ((InOrder t → ⊥) → ⊥) → First ((8, Outside t c) ∷ (9, (Managed t → ⊥)) ∷ []) n → First (late t c) n
+late-ordered t c n order f = pass _ _ _ _ (λ k. order (k .disordered)) (pass _ _ _ _ (λ l. order (λ o. order-no-loop o l)) f)
 
 -- ---- a look
 
--- where all else is well, order and administrators are left
-pub look-is : {t : Tables} {down up : List ℕ} {settled : ℕ} {m : Bool} → Shaped t → Live t 0 → Joined t → Settled t settled down
-    → settled ≡ t .live → Turned (t .live) down up → (m ≡ true) ↔ ManagedBy (t .live) down up → Seen t m down up
-look-is shaped root joined w e u managed = record {
-  sound-is = (
-    λ h. record {
-      shaped = shaped;
-      joined = joined;
-      loopless = order-loopless (shaped .live-fits) joined .0 (in-order-is w .0 e);
-      root = root;
-      managed = managed-by (settled-views w e u) .0 (managed .0 h);
-    },
-    λ s. managed .1 (managed-by (settled-views w e u) .1 (s .managed)),
-  );
-  seen = λ _. settled-views w e u;
-}
+pub no-live-loop : {t : Tables} → Sound t → LiveLoops t → ⊥
+no-live-loop s l = s .loopless (l .0, l .1 .1)
 
--- and a board that isn't in order isn't sound
-pub no-order : {t : Tables} {down : List ℕ} {settled : ℕ} → Settled t settled down → (settled ≡ t .live → ⊥) → Sound t → ⊥
-no-order w n s = n (in-order-is w .1 (order-loopless (s .shaped .live-fits) (s .joined) .1 (s .loopless)))
+module _ {t : Tables} {du mu d u m : List ℕ} {n : ℕ} (w : WorkedOut t du mu n d u m) where
+  -- where all else is well, tables that were worked out with 0 are sound
+  pub worked-sound : Shaped t → Live t 0 → Joined t → n ≡ 0 → Sound t
+  worked-sound shaped root joined z =
+      let rows = first-done _ refl (subst (First _) z (w .numbered)) in record {
+        shaped = shaped;
+        joined = joined;
+        loopless = λ l. rows .0 (λ o. order-loopless (shaped .live-fits) joined .0 o l);
+        root = root;
+        managed = stable (managed-dec shaped) (rows .1 .0);
+      }
 
--- a look that finds nothing sound
-pub unseen : {t : Tables} {down up : List ℕ} → (Sound t → ⊥) → Seen t false down up
-unseen n = record { sound-is = never n; seen = λ e. absurd (false≢true e) }
+  -- and with another number they aren't
+  pub worked-unsound : n ≢ 0 → Sound t → ⊥
+  worked-unsound z s =
+      z (first-unique _ n 0 (w .numbered) (pass _ _ _ _ (λ k. k (order-loopless (s .shaped .live-fits) (s .joined) .1 (s .loopless))) (pass _ _ _ _ (λ k. k (s .managed)) none)))
 
--- a sound board has been viewed
-pub viewed : {b : Board} {r : Bool} {down up : List ℕ} → Seen (tablesOf b) r down up → r ≡ true → Viewed b down up
-viewed s e = record { sound = s .sound-is .0 e; seen = s .seen e }
+  -- with 7 there is no order, else there is, and only administrators are left to ask for
+  pub worked-disordered : n ≡ 7 → InOrder t → ⊥
+  unfolding First
+  worked-disordered z o = go (first-without 7 _ ((9, (Managed t → ⊥)) ∷ []) n (λ k. k o) (w .numbered))
+    where
+      go : First ((9, (Managed t → ⊥)) ∷ []) n → ⊥
+      go (inl p) = absurd (omega (arith, z, p .1))
+      go (inr p) = absurd (omega (arith, z, p .1))
+
+  pub worked-order : n ≢ 7 → (InOrder t → ⊥) → ⊥
+  worked-order q = passed 7 _ _ n q (w .numbered)
+
+  pub worked-rest : n ≢ 7 → First ((9, (Managed t → ⊥)) ∷ []) n
+  worked-rest q = first-without 7 _ _ n (worked-order q) (w .numbered)
+
+  pub worked-right : n ≡ 0 → RightValues t d u m
+  worked-right z = w .right (λ e. omega (arith, z, e))
+
+-- a board keeps what was worked out for it, or it is not sound
+pub kept-is : {live : ℕ} {i a d u m down up managers : List ℕ} {r : Bool} → Sound (tables live i a) → RightValues (tables live i a) down up managers
+    → (r ≡ true) ↔ ((d ≡ down) × ((u ≡ up) × (m ≡ managers))) → (r ≡ true) ↔ SoundBoard (boardOf live i a d u m)
+kept-is {live} {i} {a} sound worked same = (
+  λ e. let h = same .0 e in record { sound = sound; right = rw (h .0, h .1 .0, h .1 .1) worked },
+  λ s. same .1 (values-unique (no-live-loop sound) (s .right) worked),
+)

@@ -1,43 +1,89 @@
 -- Two answers that a contract allows coincide: of a command, and of each question. Assumes nothing.
 use mathlib.Core.Path.{_≡_, refl, sym, ap, ap₂, _∙_, subst}
 use mathlib.Core.Bool.{Bool}
-use mathlib.Core.Logic.{inl, inr, _≢_, _↔_, dite}
+use mathlib.Core.Logic.{_≢_, _↔_, dite}
 use mathlib.Core.List.{List}
 use Prim.Native.Nat.{ℕ}
 use native.Mathlib.Nat.{le-antisymm}
 use native.Mathlib.Decide.{ℕ-discrete}
 use lib.Count.{ones}
+use lib.ListN.{getD, length}
+use lib.Seq.{ext-getD}
 use Rattle.sets.specs.Sets.{_isIn_}
-use Rattle.sets.specs.declared.Pick.the-variants.{Role as One, Nobody as None}
 use Rattle.sets.proofs.Bools.{test-unique}
 use Rattle.sets.proofs.Laws.{ones-mono}
+use Rattle.hierarchy.specs.Tables.{Tables}
 use Rattle.hierarchy.specs.Words.{Sound}
+use Rattle.hierarchy.specs.Views.{LiveLoops, RightValues}
 use Rattle.hierarchy.specs.First.{First}
-use Rattle.hierarchy.specs.declared.scopes.Climbed.the-variants.{Steps, Stopped}
 use Rattle.hierarchy.proofs.Admin.{manager-unique}
 use Rattle.hierarchy.proofs.ClimbLaws.{climb-unique}
 use Rattle.hierarchy.proofs.FirstLaws.{first-unique}
-use Rattle.hierarchy.proofs.ViewLaws.{managing-unique, climbing-unique}
-use Rattle.board.specs.Boards.{tablesOf}
-use Rattle.board.specs.Commands.{DecidedBy}
+use Rattle.hierarchy.proofs.ManagerLaws.{values-unique}
+use Rattle.board.specs.Boards.{tablesOf, boardOf, KeepsRight, SoundBoard}
+use Rattle.board.specs.Commands.{DecidedBy, Decided}
 use Rattle.board.specs.Questions.{refusals, Answered, Says, Counts, DerivesAnswer, ScopeAnswer, Manages, ManagerAnswer, StepsAnswer}
-use Rattle.board.specs.Looks.{DerivesOff, ScopeOff, ManagesOff, ManagerOff, ClimbsOff, StepsOff}
+use Rattle.board.specs.Looks.{DecidedOff, DerivesOff, ScopeOff, ManagerOff, StepsOff}
 use Rattle.board.specs.declared.Board.{Board}
 use Rattle.board.specs.declared.Command.{Command}
 use Rattle.board.specs.declared.questions.Manager.{Manager}
 use Rattle.board.specs.declared.questions.Manager.the-variants.{Role, Nobody}
+use Rattle.board.proofs.Rules.{stable, first-done}
 use Rattle.board.proofs.Asking.{asked-sound}
+use Rattle.board.proofs.Looking.{no-live-loop}
 
 -- what comes with a number is one value where the number is 0, and one where it is not
 by-number : {A : Type 0} {x y : A} (n : ℕ) → (n ≡ 0 → x ≡ y) → (n ≢ 0 → x ≡ y) → x ≡ y
 by-number n f g = dite (ℕ-discrete n 0) f g
 
+-- ---- a board
+
+-- Tables without a loop and right values leave one board,
+pub right-board : {b d : Board} → (LiveLoops (tablesOf b) → ⊥) → KeepsRight b → KeepsRight d → tablesOf b ≡ tablesOf d → b ≡ d
+right-board {b} {d} loopless v w e =
+    let q = values-unique loopless v (subst (λ (t : Tables). RightValues t (d .derives) (d .derivers) (d .manager)) (sym e) w) in
+    λ k. boardOf (e k .live) (e k .i) (e k .a) (q .0 k) (q .1 .0 k) (q .1 .1 k)
+
+-- and so do tables and soundness.
+pub one-board : {b d : Board} → SoundBoard b → SoundBoard d → tablesOf b ≡ tablesOf d → b ≡ d
+one-board s r e = right-board (no-live-loop (s .sound)) (s .right) (r .right) e
+
+-- Two boards that can't differ don't: they are made of numbers.
+list-stable : (xs ys : List ℕ) → ((xs ≡ ys → ⊥) → ⊥) → xs ≡ ys
+list-stable xs ys h = ext-getD 0 xs ys
+    (stable (ℕ-discrete (length xs) (length ys)) (λ k. h (λ e. k (ap length e))))
+    (λ n _. stable (ℕ-discrete (getD xs n 0) (getD ys n 0)) (λ k. h (λ e. k (ap (λ (l : List ℕ). getD l n 0) e))))
+
+pub board-stable : (b d : Board) → ((b ≡ d → ⊥) → ⊥) → b ≡ d
+board-stable b d h = λ k. boardOf (live k) (part (λ x. x .i) k) (part (λ x. x .a) k) (part (λ x. x .derives) k) (part (λ x. x .derivers) k) (part (λ x. x .manager) k)
+  where
+    live : b .live ≡ d .live
+    live = stable (ℕ-discrete (b .live) (d .live)) (λ n. h (λ e. n (ap (λ (x : Board). x .live) e)))
+
+    part : (field : Board → List ℕ) → field b ≡ field d
+    part field = list-stable (field b) (field d) (λ n. h (λ e. n (ap field e)))
+
 -- ---- a command, by whatever table
 
-pub decided-unique : {rules : List (ℕ × Type 0)} {b : Board} {c : Command} {m n : ℕ} {x y : Board} → DecidedBy rules b c m x → DecidedBy rules b c n y → (m ≡ n) × (x ≡ y)
-decided-unique {m = m} {n = n} d e =
-    let q = first-unique _ m n (d .numbered) (e .numbered) in
-    (q, by-number m (λ z. d .done z ∙ sym (e .done (sym q ∙ z))) (λ z. d .refused z ∙ sym (e .refused (λ w. z (q ∙ w)))))
+decided-one : {rules : List (ℕ × Type 0)} {Fit : Board → Type 0} {b : Board} {c : Command} {m n : ℕ} {x y : Board}
+    → (m ≡ 0 → Fit x → Fit y → tablesOf x ≡ tablesOf y → x ≡ y) → DecidedBy rules Fit b c m x → DecidedBy rules Fit b c n y → (m ≡ n) × (x ≡ y)
+decided-one {m = m} {n = n} one d e =
+    let q = first-unique _ m n (d .numbered) (e .numbered) in (
+      q,
+      by-number m
+          (λ z. let f = d .done z in let g = e .done (sym q ∙ z) in one z (f .fit) (g .fit) (f .tables-are ∙ sym (g .tables-are)))
+          (λ z. d .refused z ∙ sym (e .refused (λ w. z (q ∙ w)))),
+    )
+
+pub decided-unique : {b : Board} {c : Command} {m n : ℕ} {x y : Board} → Decided b c m x → Decided b c n y → (m ≡ n) × (x ≡ y)
+decided-unique = decided-one (λ _. one-board)
+
+-- a command that is done leaves no loop, whatever the board was
+pub decided-off-unique : {b : Board} {c : Command} {m n : ℕ} {x y : Board} → DecidedOff b c m x → DecidedOff b c n y → (m ≡ n) × (x ≡ y)
+decided-off-unique d = decided-one
+    (λ z. right-board (λ l.
+    let rows = first-done _ refl (subst (First _) z (d .numbered)) in
+    rows .1 .1 .1 .1 .1 .1 .0 (subst (λ (t : Tables). LiveLoops t) (d .done z .tables-are) l))) d
 
 -- ---- a question, by whatever table, where one value is right
 
@@ -73,7 +119,7 @@ module _ (b : Board) where
   scope-unique a r = answered-unique (λ _. counts-unique)
 
   pub manages-unique : (r : ℕ) → Sound (tablesOf b) → (x y : Manager) → Manages b r x → Manages b r y → x ≡ y
-  manages-unique r sound (Role m) (Role n) h g = ap Role (manager-unique (sound .loopless) h g)
+  manages-unique r sound (Role m) (Role n) h g = ap Role (manager-unique (no-live-loop sound) h g)
   manages-unique r sound (Role m) Nobody h g = absurd (g m h)
   manages-unique r sound Nobody (Role n) h g = absurd (h n g)
   manages-unique r sound Nobody Nobody h g = refl
@@ -84,29 +130,17 @@ module _ (b : Board) where
   pub steps-unique : (r : ℕ) {m n j k : ℕ} → StepsAnswer b r m j → StepsAnswer b r n k → (m ≡ n) × (j ≡ k)
   steps-unique r = answered-unique (λ f j k. climb-unique (sound-at r r f))
 
--- ---- and off two views
+-- ---- and off what is kept
 
-module _ (live : ℕ) (down up : List ℕ) where
-  pub derives-off-unique : (x y : ℕ) {m n : ℕ} {p q : Bool} → DerivesOff live down x y m p → DerivesOff live down x y n q → (m ≡ n) × (p ≡ q)
-  derives-off-unique x y = answered-unique (λ _. says-unique)
+module _ (live : ℕ) where
+  pub derives-off-unique : (down : List ℕ) (x y : ℕ) {m n : ℕ} {p q : Bool} → DerivesOff live down x y m p → DerivesOff live down x y n q → (m ≡ n) × (p ≡ q)
+  derives-off-unique down x y = answered-unique (λ _. says-unique)
 
-  pub scope-off-unique : (a r : ℕ) {m n j k : ℕ} {p q : Bool} → ScopeOff live down up a r m p j → ScopeOff live down up a r n q k → (m ≡ n) × _≡_ {A = Bool × ℕ} (p, j) (q, k)
-  scope-off-unique a r = answered-unique (λ _. counts-unique)
+  pub scope-off-unique : (down up : List ℕ) (a r : ℕ) {m n j k : ℕ} {p q : Bool} → ScopeOff live down up a r m p j → ScopeOff live down up a r n q k → (m ≡ n) × _≡_ {A = Bool × ℕ} (p, j) (q, k)
+  scope-off-unique down up a r = answered-unique (λ _. counts-unique)
 
-  pub manager-off-unique : (r : ℕ) {m n : ℕ} {x y : Manager} → ManagerOff live down up r m x → ManagerOff live down up r n y → (m ≡ n) × (x ≡ y)
-  manager-off-unique r = answered-unique (λ _. one)
-    where
-      one : (x y : Manager) → ManagesOff down up r x → ManagesOff down up r y → x ≡ y
-      one (Role m) (Role n) h g = let e = managing-unique down up r (One m) (One n) h g in let q : m ≡ n = cc in ap Role q
-      one (Role m) Nobody h g = let e = managing-unique down up r (One m) None h g in cc
-      one Nobody (Role n) h g = let e = managing-unique down up r None (One n) h g in cc
-      one Nobody Nobody h g = refl
+  pub manager-off-unique : (manager : List ℕ) (r : ℕ) {m n : ℕ} {x y : Manager} → ManagerOff live manager r m x → ManagerOff live manager r n y → (m ≡ n) × (x ≡ y)
+  manager-off-unique manager r = answered-unique (λ _ x y h g. h ∙ sym g)
 
-  pub steps-off-unique : (r : ℕ) {m n j k : ℕ} → StepsOff live down up r m j → StepsOff live down up r n k → (m ≡ n) × (j ≡ k)
-  steps-off-unique r = answered-unique (λ _. one)
-    where
-      one : (j k : ℕ) → ClimbsOff down up r j → ClimbsOff down up r k → j ≡ k
-      one j k (inl h) (inl g) = let e = climbing-unique down up r (Steps j) (Steps k) h g in cc
-      one j k (inl h) (inr g) = let e = climbing-unique down up r (Steps j) Stopped h (g .0) in cc
-      one j k (inr h) (inl g) = let e = climbing-unique down up r Stopped (Steps k) (h .0) g in cc
-      one j k (inr h) (inr g) = h .1 ∙ sym (g .1)
+  pub steps-off-unique : (manager : List ℕ) (r : ℕ) {m n j k : ℕ} → StepsOff live manager r m j → StepsOff live manager r n k → (m ≡ n) × (j ≡ k)
+  steps-off-unique manager r = answered-unique (λ _ x y h g. h ∙ sym g)

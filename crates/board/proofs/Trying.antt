@@ -13,15 +13,14 @@ use Rattle.sets.specs.Sets.{bit, _isIn_, _areIn_, same?}
 use Rattle.sets.proofs.Bools.{true-or-false, or-cases, or-left, or-right, and-left, and-right, and-both, false-no, lt-or-ge, not-so}
 use Rattle.sets.proofs.Digits.{bit-zero}
 use Rattle.sets.proofs.Laws.{same-is, same-eq, bit-lowest}
-use Rattle.hierarchy.specs.Tables.{row, kind}
-use Rattle.hierarchy.specs.Words.{Sound}
+use Rattle.hierarchy.specs.Tables.{Tables, row}
 use Rattle.hierarchy.specs.First.{First}
 use Rattle.hierarchy.specs.Views.{AreViews}
 use Rattle.hierarchy.proofs.Checks.{and-is, or-is, not-is, eq-is}
 use Rattle.hierarchy.proofs.Derive.{edge-entry}
 use Rattle.hierarchy.proofs.FirstLaws.{hit, pass, none}
 use Rattle.hierarchy.proofs.ViewLaws.{admin-by}
-use Rattle.board.specs.Boards.{tablesOf}
+use Rattle.board.specs.Boards.{tablesOf, KeepsRight, SoundBoard}
 use Rattle.board.specs.Commands.{NamesKind, Malformed, asSenior, asJunior, needed, Missing, edgeKind, Standing, NoEdge, scoped, strictly, InScope, Outside, before, DecidedBy, Decided}
 use Rattle.board.specs.Commands.{Malformed.no-code, Malformed.no-actor, Malformed.no-role, Malformed.no-junior, Malformed.no-kind, Standing.role, Standing.edge}
 use Rattle.board.specs.Effects.{after}
@@ -181,13 +180,13 @@ module _ (c : Command) (linked live : Bool) where
 
 -- ---- the rows as the table says them
 
-module _ (b : Board) (c : Command) where
+module _ (b : Tables) (c : Command) where
   pub missing-row : {r : Bool} → (r ≡ true) ↔ ((x : ℕ) × (needed c x ≡ true) × (bit (b .live) x ≡ false)) → (r ≡ true) ↔ Missing b c
   missing-row h = Iff·trans h (λ w. record { who = w .0; is-needed = w .1; absent = w .2 }, λ m. (m .who, m .is-needed, m .absent))
 
   pub edge-row : {linked : Bool} → linked ≡ (bit (row (b .i) (c .role)) (c .junior) || bit (row (b .a) (c .role)) (c .junior)) → (linked ≡ true) ↔ (edgeKind b c ≢ 0)
   edge-row h =
-      let e = edge-entry (tablesOf b) (c .role) (c .junior) in
+      let e = edge-entry b (c .role) (c .junior) in
       let i = bit (row (b .i) (c .role)) (c .junior) in
       let a = bit (row (b .a) (c .role)) (c .junior) in
       (λ t. e .1 (or-cases i a (sym h ∙ t)), λ n. h ∙ ⊎-elim (or-left i a) (or-right i a) (e .0 n))
@@ -209,12 +208,12 @@ module _ (b : Board) (c : Command) where
       λ n. (n .names, λ k. k (n .none)),
     ))
 
-  pub outside-row : {down up : List ℕ} → AreViews (tablesOf b) down up → OutsideBy down up c ↔ Outside b c
+  pub outside-row : {down up : List ℕ} → AreViews b down up → OutsideBy down up c ↔ Outside b c
   outside-row v = (λ o. record { adds = o .adds; outside = λ a. o .outside (admin-by v .1 a) }, λ o. record { adds = o .adds; outside = λ a. o .outside (admin-by v .0 a) })
 
 -- ---- the first half of the table
 
-module _ (In : ℕ → ℕ → Type 0) (b : Board) (c : Command) where
+module _ (In : ℕ → ℕ → Type 0) (b : Tables) (c : Command) where
   pub refused-2 : Malformed c → First (before In b c) 2
   refused-2 m = hit _ _ _ m
 
@@ -242,24 +241,32 @@ module _ (In : ℕ → ℕ → Type 0) (b : Board) (c : Command) where
 
 -- ---- the two halves in a row
 
-pub decided-unsound : (b : Board) (c : Command) → (Sound (tablesOf b) → ⊥) → Decided b c 1 b
+pub decided-unsound : (b : Board) (c : Command) → (SoundBoard b → ⊥) → Decided b c 1 b
 decided-unsound b c n = record { numbered = hit _ _ _ n; done = λ z. absurd (omega (arith, z)); refused = λ _. refl }
 
 module _ (In : ℕ → ℕ → Type 0) (b : Board) (c : Command) where
+  abbrev rows : List (ℕ × Type 0)
+  rows = before In (tablesOf b) c
+
   abbrev Outcome : ℕ → Board → Type 0
-  Outcome = DecidedBy (before In b c ++ late (after b c) c) b c
+  Outcome = DecidedBy (rows ++ late (after (tablesOf b) c) c) KeepsRight b c
 
-  pub decided-early : (n : ℕ) → n ≢ 0 → First (before In b c) n → Outcome n b
-  decided-early n h f = record { numbered = first-refused (before In b c) _ n h f; done = λ z. absurd (h z); refused = λ _. refl }
+  -- a refusal gives the very board back
+  pub decided-early : (n : ℕ) → n ≢ 0 → First rows n → (x : Board) → x ≡ b → Outcome n x
+  decided-early n h f x e = record { numbered = first-refused rows _ n h f; done = λ z. absurd (h z); refused = λ _. e }
 
-  module _ (m : ℕ) (early : m ≡ 0) (passed : First (before In b c) m) (next : Board) (is : next ≡ after b c) where
-    numbered : (n : ℕ) → First (late next c) n → First (before In b c ++ late (after b c) c) n
+  module _ (m : ℕ) (early : m ≡ 0) (passed : First rows m) (t : Tables) (is : t ≡ after (tablesOf b) c) where
+    numbered : (n : ℕ) → First (late t c) n → First (rows ++ late (after (tablesOf b) c) c) n
     numbered n f =
-        first-next (before In b c) (late (after b c) c) n (first-done (before In b c) refl (subst (First (before In b c)) early passed))
-        (subst (λ (k : Board). First (late k c) n) is f)
+        first-next rows (late (after (tablesOf b) c) c) n (first-done rows refl (subst (First rows) early passed))
+        (subst (λ (t : Tables). First (late t c) n) is f)
 
-    pub decided-late : (n : ℕ) → n ≢ 0 → First (late next c) n → Outcome n b
-    decided-late n h f = record { numbered = numbered n f; done = λ z. absurd (h z); refused = λ _. refl }
+    pub decided-late : (n : ℕ) → n ≢ 0 → First (late t c) n → (x : Board) → x ≡ b → Outcome n x
+    decided-late n h f x e = record { numbered = numbered n f; done = λ z. absurd (h z); refused = λ _. e }
 
-    pub decided-done : (n : ℕ) → n ≡ 0 → First (late next c) n → Outcome 0 next
-    decided-done n z f = record { numbered = subst (First (before In b c ++ late (after b c) c)) z (numbered n f); done = λ _. is; refused = λ h. absurd (h refl) }
+    pub decided-done : (n : ℕ) → n ≡ 0 → First (late t c) n → (x : Board) → tablesOf x ≡ t → KeepsRight x → Outcome 0 x
+    decided-done n z f x e right = record {
+      numbered = subst (First (rows ++ late (after (tablesOf b) c) c)) z (numbered n f);
+      done = λ _. record { tables-are = e ∙ is; fit = right };
+      refused = λ h. absurd (h refl);
+    }

@@ -1,21 +1,30 @@
--- With a sound board's own views, what is read off them is document 01's answer. Assumes nothing.
-use mathlib.Core.Path.{_≡_, refl}
-use mathlib.Core.Bool.{Bool}
-use mathlib.Core.Logic.{inl, inr, _↔_, Iff·rfl, Iff·trans}
+-- On a sound board what is read off the values that it keeps is document 01's answer. Assumes nothing.
+use mathlib.Core.Path.{_≡_, refl, sym, subst}
+use mathlib.Core.Bool.{Bool, true, false, cond}
+use mathlib.Core.Logic.{_⊎_, ⊎-elim, _↔_, Iff·rfl, Iff·trans}
 use mathlib.Core.List.{List, [], _∷_}
 use Prim.Native.Nat.{ℕ}
-use Rattle.hierarchy.specs.Words.{Scope, Managed, Climb}
+use native.Mathlib.Omega.{arith}
+use lib.Dec.{ltb}
+use borrow.Author.Tests.{ltb-true, ltb-false}
+use Rattle.sets.specs.Sets.{_isIn_}
+use Rattle.sets.proofs.Laws.{bit-lt}
+use Rattle.hierarchy.specs.Tables.{Live, row}
+use Rattle.hierarchy.specs.Words.{Derives, Scope, Managed, Climb, Sound}
 use Rattle.hierarchy.specs.First.{First}
-use Rattle.hierarchy.specs.Views.{LiveLoops, ScopeBy}
+use Rattle.hierarchy.specs.Views.{LiveLoops, ScopeBy, ManagerIs, managerAt, stepsUp}
 use Rattle.hierarchy.proofs.FirstLaws.{pass}
 use Rattle.hierarchy.proofs.Order.{joined-inward, joined-loops}
-use Rattle.hierarchy.proofs.ViewLaws.{scope-by, managing-by, managing-nobody, climbing-by, climbing-stopped}
-use Rattle.board.specs.Boards.{tablesOf}
+use Rattle.hierarchy.proofs.Admin.{admin-live}
+use Rattle.hierarchy.proofs.ClimbLaws.{climbs}
+use Rattle.hierarchy.proofs.ViewLaws.{scope-by}
+use Rattle.hierarchy.proofs.ManagerLaws.{steps-up}
+use Rattle.board.specs.Boards.{tablesOf, SoundBoard}
 use Rattle.board.specs.Effects.{after}
-use Rattle.board.specs.Commands.{InScope, before, Outside, afterwards, Decided}
+use Rattle.board.specs.Commands.{InScope, before, Outside, afterwards, onTables, Decided}
 use Rattle.board.specs.Questions.{misnamed, Manages, DerivesAnswer, ScopeAnswer, ManagerAnswer, StepsAnswer}
 use Rattle.board.specs.Questions.{refusals as questionRefusals}
-use Rattle.board.specs.Looks.{Viewed, Torn, late, DecidedOff, DerivesOff, ScopeOff, ManagesOff, ManagerOff, ClimbsOff, StepsOff}
+use Rattle.board.specs.Looks.{Torn, late, managerFrom, DecidedOff, DerivesOff, ScopeOff, ManagerOff, StepsOff}
 use Rattle.board.specs.declared.Board.{Board}
 use Rattle.board.specs.declared.Command.{Command}
 use Rattle.board.specs.declared.questions.Manager.{Manager}
@@ -23,56 +32,82 @@ use Rattle.board.specs.declared.questions.Manager.the-variants.{Role, No
 use Rattle.board.proofs.Rules.{Passed, first-alike, first-without}
 use Rattle.board.proofs.Asking.{asked, answer-as}
 use Rattle.board.proofs.Trying.{in-scope-alike}
-use Rattle.board.proofs.Kept.{joined-after}
+use Rattle.board.proofs.SoundAfter.{joined-after, sound-after}
 
-module _ {b : Board} {down up : List ℕ} (v : Viewed b down up) where
+module _ {b : Board} (s : SoundBoard b) where
+  -- ---- the values kept are document 01's
+
+  pub derives-kept : (x y : ℕ) → (y isIn row (b .derives) x) ↔ Derives (tablesOf b) x y
+  derives-kept = s .right .views .down-is
+
+  pub derivers-kept : (x y : ℕ) → (x isIn row (b .derivers) y) ↔ Derives (tablesOf b) x y
+  derivers-kept = s .right .views .up-is
+
+  pub scope-kept : (a r : ℕ) → ScopeBy (b .derives) (b .derivers) a r ↔ Scope (tablesOf b) a r
+  scope-kept a r = scope-by (s .right .views)
+
+  pub manager-kept : (r : ℕ) → ManagerIs (tablesOf b) r (managerAt (b .manager) r)
+  manager-kept = s .right .managers .manager-is
+
+  pub steps-kept : (r : ℕ) → Live (tablesOf b) r → Climb (tablesOf b) r (stepsUp (b .manager) 64 0 r)
+  steps-kept r l =
+      let c = climbs (s .sound) r l in
+      subst (Climb (tablesOf b) r) (sym (steps-up (s .sound) (s .right .managers) (c .1))) (c .1)
+
   -- ---- a command
 
-  pub decided-viewed : {c : Command} {n : ℕ} {board : Board} → DecidedOff down up b c n board → Decided b c n board
-  decided-viewed {c} {n} d = record {
-    numbered = pass _ _ _ _ (λ k. k (v .sound))
-        (first-alike (before (ScopeBy down up) b c) (before (Scope (tablesOf b)) b c) (late (after b c) c) (afterwards (after b c) c) n
-        (refl, Iff·rfl, (refl, Iff·rfl, (refl, Iff·rfl, (refl, Iff·rfl, (refl, scope-row, tt))))) whole (d .numbered));
-    done = d .done;
+  pub decided-viewed : {c : Command} {n : ℕ} {board : Board} → DecidedOff b c n board → Decided b c n board
+  decided-viewed {c} {n} {board} d = record {
+    numbered = pass _ _ _ _ (λ k. k s) rows;
+    done = λ z. let m = d .done z in record {
+      tables-are = m .tables-are;
+      fit = record { sound = subst Sound (sym (m .tables-are)) (sound-after (tablesOf b) c (s .sound) (subst (First (onTables (tablesOf b) c)) z rows)); right = m .fit };
+    };
     refused = d .refused;
   }
     where
-      scope-row : (InScope (ScopeBy down up) c → ⊥) ↔ (InScope (Scope (tablesOf b)) c → ⊥)
+      scope-row : (InScope (ScopeBy (b .derives) (b .derivers)) c → ⊥) ↔ (InScope (Scope (tablesOf b)) c → ⊥)
       scope-row =
-          let s = in-scope-alike c (λ x. scope-by (v .seen)) in
-          (λ h k. h (s .1 k), λ h k. h (s .0 k))
+          let e = in-scope-alike c (λ x. scope-kept (c .actor) x) in
+          (λ h k. h (e .1 k), λ h k. h (e .0 k))
 
       -- a sound board's entries still join live roles once the rows before are passed
-      whole : Passed (before (ScopeBy down up) b c) → First (late (after b c) c) n → First (afterwards (after b c) c) n
+      whole : Passed (before (ScopeBy (b .derives) (b .derivers)) (tablesOf b) c) → First (late (after (tablesOf b) c) c) n → First (afterwards (after (tablesOf b) c) c) n
       whole p h =
-          let joined = joined-after b c (v .sound .joined) (p .0) (p .1 .0) in
-          let rows : List (ℕ × Type 0) = (7, LiveLoops (tablesOf (after b c))) ∷ (8, Outside (after b c) c) ∷ (9, (Managed (tablesOf (after b c)) → ⊥)) ∷ [] in
-          first-alike rows (afterwards (after b c) c) [] [] n (refl, joined-loops joined, (refl, Iff·rfl, (refl, Iff·rfl, tt))) (λ _ f. f)
-          (first-without 1 _ rows n (λ (k : Torn (tablesOf (after b c))). k .outward (joined-inward _ joined)) h)
+          let t = after (tablesOf b) c in
+          let joined = joined-after (tablesOf b) c (s .sound .joined) (p .0) (p .1 .0) in
+          let rows : List (ℕ × Type 0) = (7, LiveLoops t) ∷ (8, Outside t c) ∷ (9, (Managed t → ⊥)) ∷ [] in
+          first-alike rows (afterwards t c) [] [] n (refl, joined-loops joined, (refl, Iff·rfl, (refl, Iff·rfl, tt))) (λ _ f. f)
+          (first-without 1 _ rows n (λ (k : Torn t). k .outward (joined-inward _ joined)) h)
+
+      rows : First (onTables (tablesOf b) c) n
+      rows =
+          first-alike (before (ScopeBy (b .derives) (b .derivers)) (tablesOf b) c) (before (Scope (tablesOf b)) (tablesOf b) c)
+          (late (after (tablesOf b) c) c) (afterwards (after (tablesOf b) c) c) n
+          (refl, Iff·rfl, (refl, Iff·rfl, (refl, Iff·rfl, (refl, Iff·rfl, (refl, scope-row, tt))))) whole (d .numbered)
 
   -- ---- the questions
 
   past : (x y n : ℕ) → First (misnamed (b .live) x y) n → First (questionRefusals b x y) n
-  past x y n f = pass _ _ _ _ (λ k. k (v .sound)) f
+  past x y n f = pass _ _ _ _ (λ k. k s) f
 
-  pub derives-viewed : (x y : ℕ) {n : ℕ} {said : Bool} → DerivesOff (b .live) down x y n said → DerivesAnswer b x y n said
-  derives-viewed x y a = answer-as (past x y _) (λ _ h. Iff·trans h (v .seen .down-is x y)) a
+  pub derives-viewed : (x y : ℕ) {n : ℕ} {said : Bool} → DerivesOff (b .live) (b .derives) x y n said → DerivesAnswer b x y n said
+  derives-viewed x y a = answer-as (past x y _) (λ _ h. Iff·trans h (derives-kept x y)) a
 
-  pub scope-viewed : (a r : ℕ) {n count : ℕ} {said : Bool} → ScopeOff (b .live) down up a r n said count → ScopeAnswer b a r n said count
-  scope-viewed a r s = answer-as (past a r _)
-      (λ _ h. (Iff·trans (h .0) (scope-by (v .seen)), (h .1 .0, λ x. Iff·trans (h .1 .1 x) (scope-by (v .seen)), h .1 .2))) s
+  pub scope-viewed : (a r : ℕ) {n count : ℕ} {said : Bool} → ScopeOff (b .live) (b .derives) (b .derivers) a r n said count → ScopeAnswer b a r n said count
+  scope-viewed a r h = answer-as (past a r _)
+      (λ _ h. (Iff·trans (h .0) (scope-kept a r), (h .1 .0, λ x. Iff·trans (h .1 .1 x) (scope-kept a x), h .1 .2))) h
 
-  pub manager-viewed : (r : ℕ) {n : ℕ} {m : Manager} → ManagerOff (b .live) down up r n m → ManagerAnswer b r n m
-  manager-viewed r {m = m} a = answer-as (past r r _) (λ _. is m) a
-    where
-      is : (m : Manager) → ManagesOff down up r m → Manages b r m
-      is (Role m) h = managing-by (v .seen) (v .sound .loopless) .0 h
-      is Nobody h = managing-nobody (v .seen) (v .sound .loopless) .0 h
+  -- a manager that is kept, as an answer
+  manages : (r : ℕ) (p : Bool) → ltb (managerAt (b .manager) r) 64 ≡ p → Manages b r (cond p (Role (managerAt (b .manager) r)) Nobody)
+  manages r true e = ⊎-elim (λ l. l) (λ w. absurd (omega (arith, ltb-true (managerAt (b .manager) r) 64 e, w .1))) (manager-kept r)
+  manages r false e = ⊎-elim
+      (λ l. absurd (omega (arith, ltb-false (managerAt (b .manager) r) 64 e, bit-lt 64 (s .sound .shaped .live-fits) (admin-live (l .admin)))))
+      (λ w. w .0) (manager-kept r)
 
-  -- a live role of a sound board is never stopped
-  pub steps-viewed : (r : ℕ) {n steps : ℕ} → StepsOff (b .live) down up r n steps → StepsAnswer b r n steps
-  steps-viewed r {n} {steps} a = answer-as (past r r _) (λ z. is z) a
-    where
-      is : n ≡ 0 → ClimbsOff down up r steps → Climb (tablesOf b) r steps
-      is z (inl h) = climbing-by (v .seen) (v .sound) .0 h
-      is z (inr h) = absurd (climbing-stopped (v .seen) (v .sound) (asked (b .live) r r n (a .numbered) z .x-live) (h .0))
+  pub manager-viewed : (r : ℕ) {n : ℕ} {m : Manager} → ManagerOff (b .live) (b .manager) r n m → ManagerAnswer b r n m
+  unfolding managerFrom
+  manager-viewed r a = answer-as (past r r _) (λ _ e. subst (Manages b r) (sym e) (manages r _ refl)) a
+
+  pub steps-viewed : (r : ℕ) {n steps : ℕ} → StepsOff (b .live) (b .manager) r n steps → StepsAnswer b r n steps
+  steps-viewed r {n} a = answer-as (past r r _) (λ z e. subst (Climb (tablesOf b) r) (sym e) (steps-kept r (asked (b .live) r r n (a .numbered) z .x-live))) a

@@ -6,10 +6,10 @@ use mathlib.Core.List.{List, [], _∷_, _++_}
 use Prim.Native.Nat.{ℕ, _≤_, _<_}
 use lib.Dec.{eqb, leb}
 use Rattle.sets.specs.Sets.{bit, _isIn_}
-use Rattle.hierarchy.specs.Tables.{kind}
-use Rattle.hierarchy.specs.Words.{Scope, Administrator, Loops, Managed, Sound}
+use Rattle.hierarchy.specs.Tables.{Tables, kind}
+use Rattle.hierarchy.specs.Words.{Scope, Administrator, Loops, Managed}
 use Rattle.hierarchy.specs.First.{First}
-use Rattle.board.specs.Boards.{tablesOf}
+use Rattle.board.specs.Boards.{tablesOf, SoundBoard}
 use Rattle.board.specs.Effects.{after}
 use Rattle.board.specs.declared.Board.{Board}
 use Rattle.board.specs.declared.Command.{Command}
@@ -48,23 +48,23 @@ needed c x =
     || ((eqb (c .code) 1 && (asSenior c x || asJunior c x))
     || ((leb 2 (c .code) && eqb x (c .role)) || (leb 3 (c .code) && eqb x (c .junior))))
 
-pub record Missing (b : Board) (c : Command) : Type 0 where
+pub record Missing (t : Tables) (c : Command) : Type 0 where
   pub who : ℕ
   pub is-needed : needed c who ≡ true
-  pub absent : bit (b .live) who ≡ false
+  pub absent : bit (t .live) who ≡ false
 
 -- ---- rows 4 and 5: the new role or the edge stands already; there is no edge
 
-abbrev pub edgeKind : Board → Command → ℕ
-edgeKind b c = kind (tablesOf b) (c .role) (c .junior)
+abbrev pub edgeKind : Tables → Command → ℕ
+edgeKind t c = kind t (c .role) (c .junior)
 
-pub data Standing (b : Board) (c : Command) : Type 0 where
-  role : c .code ≡ 1 → c .role isIn b .live → Standing b c
-  edge : c .code ≡ 3 → edgeKind b c ≢ 0 → Standing b c
+pub data Standing (t : Tables) (c : Command) : Type 0 where
+  role : c .code ≡ 1 → c .role isIn t .live → Standing t c
+  edge : c .code ≡ 3 → edgeKind t c ≢ 0 → Standing t c
 
-pub record NoEdge (b : Board) (c : Command) : Type 0 where
+pub record NoEdge (t : Tables) (c : Command) : Type 0 where
   pub names : 4 ≤ c .code
-  pub none : edgeKind b c ≡ 0
+  pub none : edgeKind t c ≡ 0
 
 -- ---- row 6: the column "Scope condition before"
 
@@ -82,42 +82,53 @@ pub record InScope (In : ℕ → ℕ → Type 0) (c : Command) : Type 0 where
   pub scope : (x : ℕ) → scoped c x ≡ true → In (c .actor) x
   pub strict : (x : ℕ) → strictly c x ≡ true → In (c .actor) x × (c .actor ≢ x)
 
--- ---- row 8, on the board afterwards: the new role is outside the actor's strict scope
+-- ---- row 8, on the tables afterwards: the new role is outside the actor's strict scope
 
-pub record Outside (b : Board) (c : Command) : Type 0 where
+pub record Outside (t : Tables) (c : Command) : Type 0 where
   pub adds : c .code ≡ 1
-  pub outside : Administrator (tablesOf b) (c .actor) (c .role) → ⊥
+  pub outside : Administrator t (c .actor) (c .role) → ⊥
 
 -- ---- the table of refusals, in the order they are tried
 
--- on the board handed in, by what scope means there
-abbrev pub before : (ℕ → ℕ → Type 0) → Board → Command → List (ℕ × Type 0)
-before In b c =
+-- on the tables handed in, by what scope means there
+abbrev pub before : (ℕ → ℕ → Type 0) → Tables → Command → List (ℕ × Type 0)
+before In t c =
     (2, Malformed c)
-    ∷ (3, Missing b c)
-    ∷ (4, Standing b c)
-    ∷ (5, NoEdge b c)
+    ∷ (3, Missing t c)
+    ∷ (4, Standing t c)
+    ∷ (5, NoEdge t c)
     ∷ (6, (InScope In c → ⊥))
     ∷ []
 
--- on the board that the command would leave
-abbrev pub afterwards : Board → Command → List (ℕ × Type 0)
-afterwards b c =
-    (7, Loops (tablesOf b))
-    ∷ (8, Outside b c)
-    ∷ (9, (Managed (tablesOf b) → ⊥))
+-- on the tables that the command would leave: past loops, and all
+abbrev pub pastLoops : Tables → Command → List (ℕ × Type 0)
+pastLoops t c =
+    (8, Outside t c)
+    ∷ (9, (Managed t → ⊥))
     ∷ []
 
--- document 01's table: its own word for scope, and an unsound board refused first
+abbrev pub afterwards : Tables → Command → List (ℕ × Type 0)
+afterwards t c = (7, Loops t) ∷ pastLoops t c
+
+-- document 01's rows past the first, with its own word for scope
+abbrev pub onTables : Tables → Command → List (ℕ × Type 0)
+onTables t c = before (Scope t) t c ++ afterwards (after t c) c
+
+-- and an unsound board refused before all others
 abbrev pub refusals : Board → Command → List (ℕ × Type 0)
-refusals b c = (1, (Sound (tablesOf b) → ⊥)) ∷ (before (Scope (tablesOf b)) b c ++ afterwards (after b c) c)
+refusals b c = (1, (SoundBoard b → ⊥)) ∷ onTables (tablesOf b) c
 
--- ---- what a command answers: the number by the table; done makes the change, a refusal leaves the board as it was
+-- ---- what a command answers: the number by the table; done makes the change, a refusal leaves the very board
 
-pub record DecidedBy (rules : List (ℕ × Type 0)) (b : Board) (c : Command) (number : ℕ) (board : Board) : Type 0 where
+-- The change: the tables are those afterwards, and the board is as a board has to be, which settles the values it keeps.
+pub record Made (Fit : Board → Type 0) (b : Board) (c : Command) (board : Board) : Type 0 where
+  pub tables-are : tablesOf board ≡ after (tablesOf b) c
+  pub fit : Fit board
+
+pub record DecidedBy (rules : List (ℕ × Type 0)) (Fit : Board → Type 0) (b : Board) (c : Command) (number : ℕ) (board : Board) : Type 0 where
   pub numbered : First rules number
-  pub done : number ≡ 0 → board ≡ after b c
+  pub done : number ≡ 0 → Made Fit b c board
   pub refused : number ≢ 0 → board ≡ b
 
 abbrev pub Decided : Board → Command → ℕ → Board → Type 0
-Decided b c = DecidedBy (refusals b c) b c
+Decided b c = DecidedBy (refusals b c) SoundBoard b c

@@ -4,8 +4,7 @@ use mathlib.Core.List.{List, [], _∷_}
 use Prim.Native.Nat.{ℕ, zero, suc}
 use lib.Dec.{eqb}
 use Rattle.sets.specs.Sets.{bit, setOf}
-use Rattle.hierarchy.specs.Tables.{row}
-use Rattle.board.specs.declared.Board.{Board}
+use Rattle.hierarchy.specs.Tables.{Tables, tables, row}
 use Rattle.board.specs.declared.Command.{Command}
 
 -- which parts a kind has: 1 is I, 2 is A, 3 is both
@@ -46,10 +45,9 @@ listOf (suc n) f = f 0 ∷ listOf n (λ k. f (suc k))
 unfoldable pub tableAfter : Command → ℕ → ℕ → Bool → List ℕ → List ℕ
 tableAfter c seniors juniors part t = listOf 64 (λ x. setOf (λ y. entry c seniors juniors part (bit (row t x) y) x y))
 
--- the board afterwards
-unfoldable pub after : Board → Command → Board
-after b c = record {
-  live = setOf (λ x. lives c (bit (b .live) x) x);
-  i = tableAfter c (c .«i_seniors») (c .«i_juniors») (hasI (c .kind)) (b .i);
-  a = tableAfter c (c .«a_seniors») (c .«a_juniors») (hasA (c .kind)) (b .a);
-}
+-- The tables afterwards. What a board keeps besides follows from them, so no line has to name it.
+unfoldable pub after : Tables → Command → Tables
+after t c = tables
+    (setOf (λ x. lives c (bit (t .live) x) x))
+    (tableAfter c (c .«i_seniors») (c .«i_juniors») (hasI (c .kind)) (t .i))
+    (tableAfter c (c .«a_seniors») (c .«a_juniors») (hasA (c .kind)) (t .a))

@@ -6,9 +6,9 @@ use mathlib.Core.List.{List, [], _∷_}
 use Prim.Native.Nat.{ℕ, _<_}
 use lib.Count.{ones}
 use Rattle.sets.specs.Sets.{_isIn_}
-use Rattle.hierarchy.specs.Words.{Derives, Scope, LineManager, Climb, Sound}
+use Rattle.hierarchy.specs.Words.{Derives, Scope, LineManager, Climb}
 use Rattle.hierarchy.specs.First.{First}
-use Rattle.board.specs.Boards.{tablesOf}
+use Rattle.board.specs.Boards.{tablesOf, SoundBoard}
 use Rattle.board.specs.declared.Board.{Board}
 use Rattle.board.specs.declared.questions.Manager.{Manager}
 use Rattle.board.specs.declared.questions.Manager.the-variants.{Role, Nobody}
@@ -21,7 +21,7 @@ misnamed live x y =
     ∷ []
 
 abbrev pub refusals : Board → ℕ → ℕ → List (ℕ × Type 0)
-refusals b x y = (1, (Sound (tablesOf b) → ⊥)) ∷ misnamed (b .live) x y
+refusals b x y = (1, (SoundBoard b → ⊥)) ∷ misnamed (b .live) x y
 
 -- What a question answers: the number by its table, with 0 a value that is right, with a refusal the one that says no, none or zero.
 pub record Answered {A : Type 0} (rules : List (ℕ × Type 0)) (Right : A → Type 0) (none : A) (number : ℕ) (value : A) : Type 0 where

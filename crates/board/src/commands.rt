@@ -1,6 +1,6 @@
 // The five commands. `step` decides one: it tries the refusals of document 01 in their order, first on the board it is handed, then
-// on the board the command would leave, and gives back the number and the board, changed where the number is 0. `decide` is the same
-// for a caller that has just found the board sound and has its views: it takes scope as the two tables that are lent say it.
+// on the tables the command would leave, and gives back the number and the board, changed where the number is 0. `decide` is the same
+// for a caller that has just found the board sound: it takes what the board keeps as it stands there.
 ghost use mathlib.Core.Path.{_≡_};
 ghost use mathlib.Core.Bool.{true, false, not, _&&_, _||_};
 ghost use mathlib.Core.Logic.{_↔_};
@@ -11,17 +11,15 @@ ghost use Rattle.hierarchy.specs.First.{First};
 ghost use Rattle.hierarchy.specs.Tables.{tables, row, IsTable};
 ghost use Rattle.hierarchy.specs.Views.{ScopeBy};
 ghost use Rattle.board.specs.Boards.{boardOf};
-ghost use Rattle.board.specs.Looks.{OutOfOrder, late, OutsideBy, DecidedOff};
+ghost use Rattle.board.specs.Looks.{OutOfOrder, OutsideBy, LateBy, DecidedOff};
 ghost use Rattle.board.specs.Commands.{Malformed, needed, scoped, strictly, InScope, before, Decided};
 use crate::Board;
 use crate::Command;
-use crate::effects::after;
-use crate::looks::look;
-use hierarchy::scopes::administrators;
-use hierarchy::scopes::managed;
+use crate::checks::sound_of;
+use crate::effects::change;
+use crate::shape::whole;
 use hierarchy::scopes::scope;
-use hierarchy::views::fill_down;
-use hierarchy::views::fill_up;
+use hierarchy::working::work_out;
 use sets::Pick;
 use sets::but_lowest;
 use sets::has;
@@ -155,10 +153,13 @@ fn within_scope(scope: u64, c: Command) -> bool
 fn outside<'v>(down: &'v [u64; 64], up: &'v [u64; 64], c: Command) -> bool
     ensures { λ r. ⌜ (r ≡ true) ↔ OutsideBy (now (down .entry)) (now (up .entry)) c ⌝ }
 {
-    if c.code == 1 {
-        return !has(administrators(down, up, c.role as usize), c.actor as usize);
+    if c.code != 1 {
+        return false;
     }
-    false
+    if c.actor == c.role {
+        return true;
+    }
+    !hierarchy::scopes::in_scope(down, up, c.actor as usize, c.role as usize)
 }
 
 // The refusals on the board handed in, past the first.
@@ -170,7 +171,7 @@ fn refused_before<'t>(
     down: &'t [u64; 64],
     up: &'t [u64; 64],
 ) -> u8
-    ensures { λ r. ⌜ First (before (ScopeBy (now (down .entry)) (now (up .entry))) (boardOf live (now (i .entry)) (now (a .entry))) c) r ⌝ }
+    ensures { λ r. ⌜ First (before (ScopeBy (now (down .entry)) (now (up .entry))) (tables live (now (i .entry)) (now (a .entry))) c) r ⌝ }
 {
     if malformed(c) {
         return 2;
@@ -207,70 +208,118 @@ fn out_of_order<'t>(live: u64, i: &'t [u64; 64], a: &'t [u64; 64]) -> u8
     }
 }
 
-// The refusals on the board that the command would leave.
-fn refused_after<'t>(live: u64, i: &'t [u64; 64], a: &'t [u64; 64], c: Command) -> u8
-    requires { ⌜ IsTable (now i) × IsTable (now a) ⌝ }
-    ensures { λ r. ⌜ First (late (boardOf live (now (i .entry)) (now (a .entry))) c) r ⌝ }
-{
-    let mut down = [0u64; 64];
-    let mut up = [0u64; 64];
-    if fill_down(live, i, a, &mut down) != live {
-        return out_of_order(live, i, a);
-    }
-    fill_up(live, &down, &mut up);
-    if outside(&down, &up, c) {
-        return 8;
-    }
-    if managed(live, &down, &up) {
-        return 0;
-    }
-    9
-}
-
-// One command on the board of these tables, by these views.
-pub fn decide<'t>(
+// The refusals on the tables that the command would leave; where there is none, what a board of these keeps has been worked out.
+fn refused_after<'t>(
     live: u64,
     i: &'t [u64; 64],
     a: &'t [u64; 64],
     c: Command,
-    down: &'t [u64; 64],
-    up: &'t [u64; 64],
-) -> Outcome
-    ensures { λ r. ⌜ DecidedOff (now (down .entry)) (now (up .entry)) (boardOf live (now (i .entry)) (now (a .entry))) c (r .number) (r .board) ⌝ }
+    derives: &mut [u64; 64],
+    derivers: &mut [u64; 64],
+    manager: &mut [u8; 64],
+) -> u8
+    requires { ⌜ IsTable (now i) × IsTable (now a) ⌝ }
+    ensures { λ r. ⌜ LateBy (tables live (now (i .entry)) (now (a .entry))) c r (now (derives .exit)) (now (derivers .exit)) (now (manager .exit)) ⌝ }
 {
-    let early = refused_before(live, i, a, c, down, up);
-    let b = Board { live, i: *i, a: *a };
-    if early != 0 {
-        return Outcome {
-            number: early,
-            board: b,
-        };
+    let number = work_out(live, i, a, derives, derivers, manager);
+    if number == 7 {
+        return out_of_order(live, i, a);
     }
-    let next = after(b, c);
-    let late = refused_after(next.live, &next.i, &next.a, c);
-    if late != 0 {
-        return Outcome {
-            number: late,
-            board: b,
-        };
+    if outside(derives, derivers, c) {
+        return 8;
     }
-    Outcome {
-        number: 0,
-        board: next,
-    }
+    number
 }
 
-// One command on a board.
+// One command on the board of these parts, whose own sets say what scope is: done changes them, and a refusal leaves all six.
+pub fn decide(
+    live: &mut u64,
+    i: &mut [u64; 64],
+    a: &mut [u64; 64],
+    derives: &mut [u64; 64],
+    derivers: &mut [u64; 64],
+    manager: &mut [u8; 64],
+    c: Command,
+) -> u8
+    ensures { λ r. ⌜ DecidedOff (boardOf (now (live .entry)) (now (i .entry)) (now (a .entry)) (now (derives .entry)) (now (derivers .entry)) (now (manager .entry))) c r (boardOf (now (live .exit)) (now (i .exit)) (now (a .exit)) (now (derives .exit)) (now (derivers .exit)) (now (manager .exit))) ⌝ }
+{
+    let early = refused_before(*live, i, a, c, derives, derivers);
+    if early != 0 {
+        return early;
+    }
+    whole(*i);
+    whole(*a);
+    let mut new_i = *i;
+    let mut new_a = *a;
+    let new_live = change(*live, &mut new_i, &mut new_a, c);
+    let mut down = [0u64; 64];
+    let mut up = [0u64; 64];
+    let mut managers = [0u8; 64];
+    let late = refused_after(
+        new_live,
+        &new_i,
+        &new_a,
+        c,
+        &mut down,
+        &mut up,
+        &mut managers,
+    );
+    if late != 0 {
+        return late;
+    }
+    *live = new_live;
+    *i = new_i;
+    *a = new_a;
+    *derives = down;
+    *derivers = up;
+    *manager = managers;
+    0
+}
+
+// One command on the board of these parts, which is looked at as a whole before.
+pub fn settle(
+    live: &mut u64,
+    i: &mut [u64; 64],
+    a: &mut [u64; 64],
+    derives: &mut [u64; 64],
+    derivers: &mut [u64; 64],
+    manager: &mut [u8; 64],
+    c: Command,
+) -> u8
+    ensures { λ r. ⌜ Decided (boardOf (now (live .entry)) (now (i .entry)) (now (a .entry)) (now (derives .entry)) (now (derivers .entry)) (now (manager .entry))) c r (boardOf (now (live .exit)) (now (i .exit)) (now (a .exit)) (now (derives .exit)) (now (derivers .exit)) (now (manager .exit))) ⌝ }
+{
+    if !sound_of(*live, i, a, derives, derivers, manager) {
+        return 1;
+    }
+    decide(live, i, a, derives, derivers, manager, c)
+}
+
+// One command on a board by value.
 pub fn step(b: Board, c: Command) -> Outcome
     ensures { λ r. ⌜ Decided b c (r .number) (r .board) ⌝ }
 {
-    let mut down = [0u64; 64];
-    let mut up = [0u64; 64];
-    if !look(b.live, &b.i, &b.a, &mut down, &mut up) {
-        return Outcome {
-            number: 1,
-            board: b,
-        };
-    }
-    decide(b.live, &b.i, &b.a, c, &down, &up)
+    let mut live = b.live;
+    let mut i = b.i;
+    let mut a = b.a;
+    let mut derives = b.derives;
+    let mut derivers = b.derivers;
+    let mut manager = b.manager;
+    let number = settle(
+        &mut live,
+        &mut i,
+        &mut a,
+        &mut derives,
+        &mut derivers,
+        &mut manager,
+        c,
+    );
+    let board = Board {
+        live,
+        i,
+        a,
+        derives,
+        derivers,
+        manager,
+    };
+    Outcome { number, board }
 }

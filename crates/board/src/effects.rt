@@ -1,12 +1,11 @@
-// What a command does to a board. Nothing is refused here: a command of any code on any board has the effect that its line of
+// What a command does to the tables of a board. Nothing is refused here: a command of any code on any board has the effect that its line of
 // document 01 says, and a role above 63 names nobody. The two tables go the same way.
 ghost use mathlib.Core.Path.{_≡_};
 ghost use mathlib.Core.Bool.{_||_};
 ghost use lib.Dec.{eqb};
 ghost use Rattle.sets.specs.Sets.{bit, setOf};
-ghost use Rattle.hierarchy.specs.Tables.{IsTable};
+ghost use Rattle.hierarchy.specs.Tables.{tables, IsTable};
 ghost use Rattle.board.specs.Effects.{lives, tableAfter, after};
-use crate::Board;
 use crate::Command;
 use crate::tables::enter;
 use crate::tables::leave;
@@ -72,25 +71,12 @@ fn has_part(kind: u32, own: u32) -> bool
     kind == own || kind == 3
 }
 
-// The board that the command would leave.
-pub fn after(b: Board, c: Command) -> Board
-    ensures { λ r. ⌜ r ≡ after b c ⌝ }
+// Makes the tables those that the command would leave, and gives the live roles.
+pub(crate) fn change(live: u64, i: &mut [u64; 64], a: &mut [u64; 64], c: Command) -> u64
+    requires { ⌜ IsTable (now i) × IsTable (now a) ⌝ }
+    ensures { λ r. ⌜ tables r (now (i .exit)) (now (a .exit)) ≡ after (tables live (now (i .entry)) (now (a .entry))) c ⌝ }
 {
-    let mut next = b;
-    next.live = living(b.live, c);
-    edit(
-        &mut next.i,
-        c,
-        c.i_seniors,
-        c.i_juniors,
-        has_part(c.kind, 1),
-    );
-    edit(
-        &mut next.a,
-        c,
-        c.a_seniors,
-        c.a_juniors,
-        has_part(c.kind, 2),
-    );
-    next
+    edit(i, c, c.i_seniors, c.i_juniors, has_part(c.kind, 1));
+    edit(a, c, c.a_seniors, c.a_juniors, has_part(c.kind, 2));
+    living(live, c)
 }

@@ -7,25 +7,33 @@ ghost use Rattle.board.specs.Boards.{foundingBoard};
 
 pub mod checks;
 pub mod commands;
-pub mod effects;
+mod effects;
+pub mod kept;
 pub mod lent;
-mod looks;
 pub mod questions;
+mod shape;
 mod tables;
 
 // `live` is the set of the live roles. Row x of `i` is the set of the juniors that role x has by I, row x of `a` of those by A; an
-// IA edge is in both.
+// IA edge is in both. The rest is kept so that nobody has to work it out again: row x of `derives` is the set of what x derives, row
+// x of `derivers` of what derives x, and `manager` has the line managers, with NO_MANAGER for none. A command leaves these right; a
+// board where they are wrong is not sound.
 #[repr(C)]
 pub struct Board {
     pub live: u64,
     pub i: [u64; Board::ROLES],
     pub a: [u64; Board::ROLES],
+    pub derives: [u64; Board::ROLES],
+    pub derivers: [u64; Board::ROLES],
+    pub manager: [u8; Board::ROLES],
 }
 
 impl Board {
     pub const ROLES: usize = 64;
 
     pub const EDGES: usize = 2016;
+    // in `manager`: role 0 and roles that aren't live have none
+    pub const NO_MANAGER: u8 = 64;
     // the bytes of the longest board file: a byte a role, three an edge, and the trailer's six
     pub const FILE: usize = Board::ROLES + 3 * Board::EDGES + 6;
 
@@ -33,9 +41,17 @@ impl Board {
     pub fn founding() -> Self
         ensures { λ r. ⌜ r ≡ foundingBoard ⌝ }
     {
-        let i = [0u64; Board::ROLES];
-        let a = [0u64; Board::ROLES];
-        Board { live: 1, i, a }
+        let none = [0u64; Board::ROLES];
+        let mut itself = [0u64; Board::ROLES];
+        itself[0] = 1;
+        Board {
+            live: 1,
+            i: none,
+            a: none,
+            derives: itself,
+            derivers: itself,
+            manager: [Board::NO_MANAGER; Board::ROLES],
+        }
     }
 }
 

@@ -1,13 +1,12 @@
-// The four questions. Each looks at the board once, and answers 1, 2 or 3 with no, none or zero, or 0 with the answer. The forms
-// with `_by` are for a caller that has just found the board sound and has its views: the same answer, with nothing worked out again.
-// Their answer is the one read off the two tables that are lent, whatever these hold.
+// The four questions. Each looks at the whole board once, and answers 1, 2 or 3 with no, none or zero, or 0 with the answer. The forms
+// with `_by` are for a caller that has just found the board sound: the same answer, with nothing worked out again. Theirs is the one
+// read off what is lent, whatever that holds.
 ghost use Rattle.hierarchy.specs.First.{First};
 ghost use Rattle.board.specs.Looks.{DerivesOff, ScopeOff, ManagerOff, StepsOff};
 ghost use Rattle.board.specs.Questions.{misnamed, DerivesAnswer, ScopeAnswer, ManagerAnswer, StepsAnswer};
 use crate::Board;
-use crate::looks::look;
-use hierarchy::scopes::Climbed;
-use sets::Pick;
+use crate::checks::sound_of;
+use crate::kept;
 use sets::has;
 use sets::size;
 
@@ -62,18 +61,16 @@ fn refused(live: u64, x: u32, y: u32) -> u8
 pub fn derives(b: Board, x: u32, y: u32) -> Derived
     ensures { λ r. ⌜ DerivesAnswer b x y (r .number) (r .yes) ⌝ }
 {
-    let mut down = [0u64; 64];
-    let mut up = [0u64; 64];
-    if !look(b.live, &b.i, &b.a, &mut down, &mut up) {
+    if !sound_of(b.live, &b.i, &b.a, &b.derives, &b.derivers, &b.manager) {
         return Derived {
             number: 1,
             yes: false,
         };
     }
-    derives_by(b.live, &down, x, y)
+    derives_by(b.live, &b.derives, x, y)
 }
 
-// The same, off the view down.
+// The same, off the sets that are kept.
 pub fn derives_by(live: u64, down: &[u64; 64], x: u32, y: u32) -> Derived
     ensures { λ r. ⌜ DerivesOff live (now (down .entry)) x y (r .number) (r .yes) ⌝ }
 {
@@ -89,19 +86,17 @@ pub fn derives_by(live: u64, down: &[u64; 64], x: u32, y: u32) -> Derived
 pub fn scope(b: Board, a: u32, r: u32) -> Scoped
     ensures { λ y. ⌜ ScopeAnswer b a r (y .number) (y .yes) (y .count) ⌝ }
 {
-    let mut down = [0u64; 64];
-    let mut up = [0u64; 64];
-    if !look(b.live, &b.i, &b.a, &mut down, &mut up) {
+    if !sound_of(b.live, &b.i, &b.a, &b.derives, &b.derivers, &b.manager) {
         return Scoped {
             number: 1,
             yes: false,
             count: 0,
         };
     }
-    scope_by(b.live, &down, &up, a, r)
+    scope_by(b.live, &b.derives, &b.derivers, a, r)
 }
 
-// The same, off two views.
+// The same, off the sets that are kept.
 pub fn scope_by<'v>(live: u64, down: &'v [u64; 64], up: &'v [u64; 64], a: u32, r: u32) -> Scoped
     ensures { λ y. ⌜ ScopeOff live (now (down .entry)) (now (up .entry)) a r (y .number) (y .yes) (y .count) ⌝ }
 {
@@ -113,7 +108,7 @@ pub fn scope_by<'v>(live: u64, down: &'v [u64; 64], up: &'v [u64; 64], a: u32, r
             count: 0,
         };
     }
-    let all = hierarchy::scopes::scope(down, up, a as usize);
+    let all = kept::scope(down, up, a);
     let yes = has(all, r as usize);
     let count = size(all);
     Scoped { number, yes, count }
@@ -123,20 +118,18 @@ pub fn scope_by<'v>(live: u64, down: &'v [u64; 64], up: &'v [u64; 64], a: u32, r
 pub fn line_manager(b: Board, r: u32) -> Managed
     ensures { λ y. ⌜ ManagerAnswer b r (y .number) (y .manager) ⌝ }
 {
-    let mut down = [0u64; 64];
-    let mut up = [0u64; 64];
-    if !look(b.live, &b.i, &b.a, &mut down, &mut up) {
+    if !sound_of(b.live, &b.i, &b.a, &b.derives, &b.derivers, &b.manager) {
         return Managed {
             number: 1,
             manager: Manager::Nobody,
         };
     }
-    line_manager_by(b.live, &down, &up, r)
+    line_manager_by(b.live, &b.manager, r)
 }
 
-// The same, off two views.
-pub fn line_manager_by<'v>(live: u64, down: &'v [u64; 64], up: &'v [u64; 64], r: u32) -> Managed
-    ensures { λ y. ⌜ ManagerOff live (now (down .entry)) (now (up .entry)) r (y .number) (y .manager) ⌝ }
+// The same, off the managers that are kept.
+pub fn line_manager_by(live: u64, manager: &[u8; 64], r: u32) -> Managed
+    ensures { λ y. ⌜ ManagerOff live (now (manager .entry)) r (y .number) (y .manager) ⌝ }
 {
     let number = refused(live, r, r);
     if number != 0 {
@@ -145,43 +138,31 @@ pub fn line_manager_by<'v>(live: u64, down: &'v [u64; 64], up: &'v [u64; 64], r:
             manager: Manager::Nobody,
         };
     }
-    let Pick::Role(m) = hierarchy::scopes::manager(down, up, r as usize) else {
-        return Managed {
-            number,
-            manager: Manager::Nobody,
-        };
-    };
-    Managed {
-        number,
-        manager: Manager::Role(m as u8),
-    }
+    let m = kept::line_manager(manager, r);
+    Managed { number, manager: m }
 }
 
-// The steps from r to role 0 by line managers. On a sound board no live role is stopped on the way.
+// The steps from r to role 0 by line managers.
 pub fn steps(b: Board, r: u32) -> Stepped
     ensures { λ y. ⌜ StepsAnswer b r (y .number) (y .steps) ⌝ }
 {
-    let mut down = [0u64; 64];
-    let mut up = [0u64; 64];
-    if !look(b.live, &b.i, &b.a, &mut down, &mut up) {
+    if !sound_of(b.live, &b.i, &b.a, &b.derives, &b.derivers, &b.manager) {
         return Stepped {
             number: 1,
             steps: 0,
         };
     }
-    steps_by(b.live, &down, &up, r)
+    steps_by(b.live, &b.manager, r)
 }
 
-// The same, off two views.
-pub fn steps_by<'v>(live: u64, down: &'v [u64; 64], up: &'v [u64; 64], r: u32) -> Stepped
-    ensures { λ y. ⌜ StepsOff live (now (down .entry)) (now (up .entry)) r (y .number) (y .steps) ⌝ }
+// The same, off the managers that are kept.
+pub fn steps_by(live: u64, manager: &[u8; 64], r: u32) -> Stepped
+    ensures { λ y. ⌜ StepsOff live (now (manager .entry)) r (y .number) (y .steps) ⌝ }
 {
     let number = refused(live, r, r);
     if number != 0 {
         return Stepped { number, steps: 0 };
     }
-    let Climbed::Steps(n) = hierarchy::scopes::steps(down, up, r as usize) else {
-        return Stepped { number, steps: 0 };
-    };
-    Stepped { number, steps: n }
+    let steps = kept::steps(manager, r);
+    Stepped { number, steps }
 }

@@ -1,13 +1,15 @@
 -- The answers of the questions on a file, and of the stretch, from those on its board. Assumes nothing.
 use mathlib.Core.Path.{_≡_, refl, ap, ap₂, _∙_, subst}
-use mathlib.Core.Logic.{_⊎_, inl, inr, _↔_, Iff·rfl, _≢_, dite}
+use mathlib.Core.Logic.{_⊎_, inl, inr, Iff·rfl, _≢_, dite}
 use mathlib.Core.List.{List, [], _∷_}
 use Prim.Native.Nat.{ℕ, _+_, _≤_, _<_}
 use native.Mathlib.Decide.{ℕ-discrete}
 use native.Mathlib.Omega.{arith}
 use lib.ListN.{length, take, drop}
 use Rattle.sets.specs.Sets.{_isIn_}
+use Rattle.hierarchy.specs.Tables.{Tables}
 use Rattle.hierarchy.specs.First.{First}
+use Rattle.board.specs.Boards.{tablesOf}
 use Rattle.board.specs.Questions.{misnamed, Answered}
 use Rattle.board.specs.Questions.{refusals as questionRefusals}
 use Rattle.board.specs.declared.Board.{Board}
@@ -15,14 +17,14 @@ use Rattle.board.proofs.Rules.{first-alike, first-done, first-refused, first-ne
 use Rattle.board.proofs.Asking.{answer-as}
 use Rattle.boardfile.specs.Files.{stretchOf}
 use Rattle.boardfile.specs.Answers.{IsFile, refusals, ReadAnswer, askedRefusals, OfFile, startOrNone, Stands, BoundsAnswer, StretchAnswer}
-use Rattle.boardfile.proofs.OneFile.{one-board}
+use Rattle.boardfile.proofs.OneFile.{named-by}
 use Rattle.boardfile.proofs.Places.{stands-small, place-inside, place-is}
 
 -- ---- the numbers
 
 -- the two refusals of its own
 abbrev own : List ℕ → ℕ → ℕ → List (ℕ × Type 0)
-own f x y = (2, (63 < x) ⊎ (63 < y)) ∷ (3, ((b : Board) × IsFile f b × ((x isIn b .live → ⊥) ⊎ (y isIn b .live → ⊥)))) ∷ []
+own f x y = (2, (63 < x) ⊎ (63 < y)) ∷ (3, ((t : Tables) × IsFile f t × ((x isIn t .live → ⊥) ⊎ (y isIn t .live → ⊥)))) ∷ []
 
 pub asked-refused : (f : List ℕ) (x y n : ℕ) → First (refusals f) n → n ≢ 0 → First (askedRefusals f x y) n
 asked-refused f x y n h z = first-refused (refusals f) (own f x y) n z h
@@ -31,13 +33,10 @@ module _ {f : List ℕ} {b : Board} (r : ReadAnswer f 0 b) where
   asked-own : (x y n : ℕ) → First (misnamed (b .live) x y) n → First (askedRefusals f x y) n
   asked-own x y n h =
       first-next (refusals f) (own f x y) n (first-done (refusals f) refl (r .numbered))
-      (first-alike (misnamed (b .live) x y) (own f x y) [] [] n (refl, Iff·rfl, (refl, dead, tt)) (λ _ g. g) h)
+      (first-alike (misnamed (b .live) x y) (own f x y) [] [] n (refl, Iff·rfl, (refl, named-by (r .done refl .0) Dead, tt)) (λ _ g. g) h)
     where
-      Dead : Board → Type 0
-      Dead d = (x isIn d .live → ⊥) ⊎ (y isIn d .live → ⊥)
-
-      dead : Dead b ↔ ((d : Board) × IsFile f d × Dead d)
-      dead = (λ h. (b, r .done refl .0, h), λ w. subst Dead (one-board (w .1) (r .done refl .0)) (w .2))
+      Dead : Tables → Type 0
+      Dead t = (x isIn t .live → ⊥) ⊎ (y isIn t .live → ⊥)
 
   module _ {A : Type 0} {Right : Board → A → Type 0} {none v : A} {n : ℕ} (x y : ℕ) where
     -- what holds of the board holds of the file
@@ -61,8 +60,8 @@ in-range f role h =
     omega (arith, low)
 
 module _ {f : List ℕ} {role number start len : ℕ} (a : BoundsAnswer f role number start len) where
-  found : number ≡ 0 → (b : Board) × IsFile f b × Stands role b (start, len) × (role < 64)
-  found e = let w = a .done e in (w .0, w .1 .done refl .0, w .2, in-range f role (subst (First (askedRefusals f role role)) e (a .numbered)))
+  found : number ≡ 0 → (t : Tables) × IsFile f t × Stands role t (start, len) × (role < 64)
+  found e = let w = a .done e in (tablesOf (w .0), w .1 .done refl .0, w .2, in-range f role (subst (First (askedRefusals f role role)) e (a .numbered)))
 
   nowhere : number ≢ 0 → (start ≡ 0) × (len ≡ 0)
   nowhere n = (ap (λ (p : ℕ × ℕ). p .0) (a .refused n), ap (λ (p : ℕ × ℕ). p .1) (a .refused n))

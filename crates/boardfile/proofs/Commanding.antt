@@ -4,13 +4,11 @@ use mathlib.Core.Logic.{inl, inr, _≢_}
 use mathlib.Core.List.{List}
 use Prim.Native.Nat.{ℕ, _≤_}
 use native.Mathlib.Omega.{arith}
-use Rattle.hierarchy.specs.Words.{Sound}
 use Rattle.hierarchy.specs.First.{First}
-use Rattle.board.specs.Boards.{tablesOf}
+use Rattle.board.specs.Boards.{tablesOf, SoundBoard}
 use Rattle.board.specs.Commands.{Decided}
 use Rattle.board.specs.declared.Board.{Board}
 use Rattle.board.specs.declared.Command.{Command}
-use Rattle.board.proofs.Kept.{sound-after}
 use Rattle.boardfile.specs.declared.commands.Place.{Place}
 use Rattle.boardfile.specs.declared.commands.Place.the-variants.{Asked, Writing}
 use Rattle.boardfile.specs.Answers.{ReadAnswer, writeRefusals, WriteAnswer, CommandAnswer, CommandAnswer.unread, CommandAnswer.refused, CommandAnswer.no-room, CommandAnswer.done}
@@ -18,11 +16,11 @@ use Rattle.boardfile.specs.Parts.{PutAnswer}
 use Rattle.boardfile.proofs.Theorems.{sound-length, put-writes}
 
 -- a done command leaves a sound board
-sound-next : {b next : Board} {c : Command} → Decided b c 0 next → Sound (tablesOf next)
-sound-next {b} {next} {c} d = subst (λ (x : Board). Sound (tablesOf x)) (sym (d .done refl)) (sound-after b c (d .numbered))
+sound-next : {b next : Board} {c : Command} → Decided b c 0 next → SoundBoard next
+sound-next d = d .done refl .fit
 
 module _ {f : List ℕ} {b next : Board} {c : Command} {entry exit : List ℕ} {m n len : ℕ} (r : ReadAnswer f 0 b) (decided : Decided b c m next) (e : m ≡ 0)
-    (put : PutAnswer next entry 0 exit n len) where
+    (put : PutAnswer (tablesOf next) entry 0 exit n len) where
   zero : Decided b c 0 next
   zero = subst (λ (k : ℕ). Decided b c k next) e decided
 
@@ -51,4 +49,4 @@ pub command-short : {f : List ℕ} {c : Command} {entry exit : List ℕ} {p : Pl
 command-short (unread r z e) = omega arith
 command-short (refused r d z e) = omega arith
 command-short (no-room r d w) = omega arith
-command-short (done {next = next} r d w) = omega (arith, w .done refl .0, sound-length next (sound-next d))
+command-short (done {next = next} r d w) = omega (arith, w .done refl .0, sound-length (tablesOf next) (sound-next d .sound))

@@ -9,28 +9,31 @@ use native.Mathlib.Decide.{ℕ-discrete}
 use native.Mathlib.Omega.{arith}
 use lib.Count.{ones}
 use lib.ListN.{take, drop}
-use Rattle.hierarchy.specs.Tables.{Live}
-use Rattle.hierarchy.specs.Words.{Scope, LineManager, Sound, Climb}
+use Rattle.sets.specs.Sets.{_isIn_}
+use Rattle.hierarchy.specs.Tables.{Tables, row, Live}
+use Rattle.hierarchy.specs.Words.{Derives, Scope, LineManager, Sound, Climb}
+use Rattle.hierarchy.specs.Views.{ScopeBy, ManagerIs, managerAt, stepsUp}
 use Rattle.hierarchy.specs.First.{First}
 use Rattle.hierarchy.proofs.ClimbLaws.{Distinct, met}
-use Rattle.hierarchy.proofs.FirstLaws.{first-unique, pass, none}
+use Rattle.hierarchy.proofs.FirstLaws.{first-unique, hit, pass, none}
 use Rattle.hierarchy.proofs.Theorems.{no-manager, one-manager, one-climb, one-way, climb-distinct, climb-short}
-use Rattle.board.specs.Boards.{tablesOf, foundingBoard}
+use Rattle.board.specs.Boards.{tablesOf, foundingBoard, KeepsRight, SoundBoard}
 use Rattle.board.specs.Effects.{after}
-use Rattle.board.specs.Commands.{edgeKind, before, afterwards, Decided}
+use Rattle.board.specs.Commands.{edgeKind, before, afterwards, Made, Decided}
 use Rattle.board.specs.Commands.{refusals as commandRefusals}
 use Rattle.board.specs.Questions.{DerivesAnswer, ScopeAnswer, ManagerAnswer, StepsAnswer}
+use Rattle.board.specs.Questions.{refusals as questionRefusals}
 use Rattle.board.specs.declared.Board.{Board}
 use Rattle.board.specs.declared.Command.{Command}
 use Rattle.board.specs.declared.questions.Manager.{Manager}
 use Rattle.board.proofs.Founding.{founding-sound}
-use Rattle.board.proofs.Kept.{sound-after, idle-change}
-use Rattle.board.proofs.Rules.{Passed, stable, first-done, first-next}
-use Rattle.board.proofs.Settled.{decided-unique, derives-unique, scope-unique, manager-answer-unique, steps-unique}
-use Rattle.hierarchy.proofs.Decide.{sound-dec}
+use Rattle.board.proofs.SoundAfter.{idle-change}
+use Rattle.board.proofs.Rules.{Passed, first-done, first-next}
+use Rattle.board.proofs.Settled.{board-stable, one-board, decided-unique, derives-unique, scope-unique, manager-answer-unique, steps-unique}
+use Rattle.board.proofs.Viewing.{derives-kept, derivers-kept, manager-kept, scope-kept, steps-kept}
 use Rattle.boardfile.specs.declared.commands.Place.{Place}
 use Rattle.boardfile.specs.Files.{fileOf}
-use Rattle.boardfile.specs.Answers.{refusals, ReadAnswer, DerivesOnFile, ScopeOnFile, ManagerOnFile, StepsOnFile, StretchOf, Placed, Unplaced, writeRefusals, WriteAnswer}
+use Rattle.boardfile.specs.Answers.{refusals, ReadAnswer, ReadInto, DerivesOnFile, ScopeOnFile, ManagerOnFile, StepsOnFile, StretchOf, Placed, Unplaced, writeRefusals, WriteAnswer}
 use Rattle.boardfile.specs.Answers.{CommandAnswer, CommandAnswer.unread, CommandAnswer.refused, CommandAnswer.no-room, CommandAnswer.done}
 use Rattle.boardfile.specs.Reached.{Reached, Reached.founding, Reached.file, Reached.command}
 use Rattle.boardfile.proofs.Settled.{read-unique, write-unique, derives-file-unique, scope-file-unique, manager-file-unique, steps-file-unique, stretch-unique, command-unique}
@@ -54,40 +57,46 @@ refused-among t n f z = ⊎-elim (λ e. absurd (z e)) (λ a. a) (first-among t n
 
 -- a command on a board: 1 to 9
 pub command-ends : {b board : Board} {c : Command} {number : ℕ} → Decided b c number board
-    → ((number ≡ 0) × (board ≡ after b c)) ⊎ (Among number (commandRefusals b c) × (board ≡ b))
+    → ((number ≡ 0) × Made SoundBoard b c board) ⊎ (Among number (commandRefusals b c) × (board ≡ b))
 command-ends {b} {board} {c} {number} d = dite (ℕ-discrete number 0)
     (λ e. inl (e, d .done e))
     (λ n. inr (refused-among (commandRefusals b c) number (d .numbered) n, d .refused n))
 
 -- a file: with the board it is the file of, or with one of 10, 11, 7, 9 and the founding board
 pub file-ends : {f : List ℕ} {board : Board} {number : ℕ} → ReadAnswer f number board
-    → ((number ≡ 0) × (f ≡ fileOf board)) ⊎ (Among number (refusals f) × (board ≡ foundingBoard))
+    → ((number ≡ 0) × (f ≡ fileOf (tablesOf board))) ⊎ (Among number (refusals f) × (board ≡ foundingBoard))
 file-ends {f} {board} {number} r = dite (ℕ-discrete number 0)
     (λ e. inl (e, r .done e .0 .bytes))
     (λ n. inr (refused-among (refusals f) number (r .numbered) n, r .refused n))
 
+-- the same into a board that is lent: a refusal leaves it
+pub reading-ends : {f : List ℕ} {entry exit : Board} {number : ℕ} → ReadInto f entry exit number
+    → ((number ≡ 0) × (f ≡ fileOf (tablesOf exit))) ⊎ (Among number (refusals f) × (exit ≡ entry))
+reading-ends {f} {number = number} r = dite (ℕ-discrete number 0)
+    (λ e. inl (e, r .done e .done refl .0 .bytes))
+    (λ n. inr (refused-among (refusals f) number (r .numbered) n, r .refused n))
+
 -- writing: with the file at its place, or with 1 or 12 and the buffer as it was
 pub writing-ends : {b : Board} {entry exit : List ℕ} {at number len : ℕ} → WriteAnswer b entry at exit number len
-    → ((number ≡ 0) × Placed b entry at exit len) ⊎ (Among number (writeRefusals b entry at) × Unplaced entry exit len)
+    → ((number ≡ 0) × Placed (tablesOf b) entry at exit len) ⊎ (Among number (writeRefusals b entry at) × Unplaced entry exit len)
 writing-ends {b} {entry} {at = at} {number = number} w = dite (ℕ-discrete number 0)
     (λ e. inl (e, w .done e))
     (λ n. inr (refused-among (writeRefusals b entry at) number (w .numbered) n, w .refused n))
 
 -- a command on the board in a file: with the file of the board afterwards in the buffer, or with a refusal of the file, of the command on
--- its board, or of the writing, and the buffer as it was
-abbrev Refused : List ℕ → Command → List ℕ → ℕ → Type 0
-Refused f c entry number =
+-- its board, or for want of room, and the buffer as it was
+abbrev Refused : List ℕ → Command → ℕ → Type 0
+Refused f c number =
     Among number (refusals f)
-    ⊎ ((b : Board) × ReadAnswer f 0 b × (Among number (commandRefusals b c) ⊎ Among number (writeRefusals (after b c) entry 0)))
+    ⊎ ((b : Board) × ReadAnswer f 0 b × (Among number (commandRefusals b c) ⊎ (number ≡ 12)))
 
 pub file-command-ends : {f : List ℕ} {c : Command} {entry exit : List ℕ} {place : Place} {number len : ℕ} → CommandAnswer f c entry exit place number len
-    → ((number ≡ 0) × ((b : Board) × ReadAnswer f 0 b × Placed (after b c) entry 0 exit len)) ⊎ (Refused f c entry number × Unplaced entry exit len)
+    → ((number ≡ 0) × ((b : Board) × ReadAnswer f 0 b × Placed (after (tablesOf b) c) entry 0 exit len)) ⊎ (Refused f c number × Unplaced entry exit len)
 file-command-ends {f} (unread {number = n} r z e) = inr (inl (refused-among (refusals f) n (r .numbered) z), (refl, e))
 file-command-ends {c = c} (refused {number = n} {b = b} r d z e) = inr (inr (b, r, inl (refused-among (commandRefusals b c) n (d .numbered) z)), (refl, e))
-file-command-ends {c = c} {entry = entry} (no-room {b = b} {next = next} r d w) =
-    inr (inr (b, r, inr (inr (inl refl))), w .refused (λ e. absurd (omega (arith, e))))
+file-command-ends (no-room {b = b} r d w) = inr (inr (b, r, inr refl), w .refused (λ e. absurd (omega (arith, e))))
 file-command-ends {entry = entry} {exit = exit} {len = len} (done {b = b} r d w) =
-    inl (refl, (b, r, subst (λ (x : Board). Placed x entry 0 exit len) (d .done refl) (w .done refl)))
+    inl (refl, (b, r, subst (λ (t : Tables). Placed t entry 0 exit len) (d .done refl .tables-are) (w .done refl)))
 
 -- ---- demand 2: the answer is the one that document 01 states, and no other. What it states is `Decided`, `DerivesAnswer`, `ScopeAnswer`,
 -- `ManagerAnswer` and `StepsAnswer` on a board, and `ReadAnswer`, `WriteAnswer`, `StretchOf`, the four `..OnFile` and `CommandAnswer` on files.
@@ -95,21 +104,36 @@ file-command-ends {entry = entry} {exit = exit} {len = len} (done {b = b} r d w)
 pub one-outcome : {b x y : Board} {c : Command} {m n : ℕ} → Decided b c m x → Decided b c n y → (m ≡ n) × (x ≡ y)
 one-outcome = decided-unique
 
+-- a board that keeps a wrong value gives 1: from a command, from a question, and from the writer
+module _ {b : Board} (wrong : KeepsRight b → ⊥) where
+  unsound : SoundBoard b → ⊥
+  unsound s = wrong (s .right)
+
+  pub wrong-value-command : {next : Board} {c : Command} {number : ℕ} → Decided b c number next → number ≡ 1
+  wrong-value-command {c = c} {number = number} d = first-unique (commandRefusals b c) number 1 (d .numbered) (hit _ _ _ unsound)
+
+  pub wrong-value-question : (x y number : ℕ) → First (questionRefusals b x y) number → number ≡ 1
+  wrong-value-question x y number f = first-unique (questionRefusals b x y) number 1 f (hit _ _ _ unsound)
+
+  pub wrong-value-writer : {entry exit : List ℕ} {at number len : ℕ} → WriteAnswer b entry at exit number len → number ≡ 1
+  wrong-value-writer {entry} {at = at} {number = number} w = first-unique (writeRefusals b entry at) number 1 (w .numbered) (hit _ _ _ unsound)
+
 -- changing an edge to the kind it has leaves the very board, whatever the number
-pub same-kind-again : {b next : Board} {c : Command} {number : ℕ} → Decided b c number next → c .code ≡ 5 → edgeKind b c ≡ c .kind → next ≡ b
+pub same-kind-again : {b next : Board} {c : Command} {number : ℕ} → Decided b c number next → c .code ≡ 5 → edgeKind (tablesOf b) c ≡ c .kind → next ≡ b
 same-kind-again {b} {next} {c} {number} d e same = dite (ℕ-discrete number 0)
     (λ z.
     let passed = first-done (commandRefusals b c) refl (subst (First (commandRefusals b c)) z (d .numbered)) in
-    d .done z ∙ idle-change b c (stable (sound-dec (tablesOf b)) (passed .0) .shaped) e same)
+    let made = d .done z in
+    board-stable next b (λ k. passed .0 (λ s. k (one-board (made .fit) s (made .tables-are ∙ idle-change (tablesOf b) c (s .sound .shaped) e same)))))
     (λ n. d .refused n)
 
 -- and where none of 1 to 6 holds, it is done
-pub same-kind-done : {b next : Board} {c : Command} {number : ℕ} → Decided b c number next → Sound (tablesOf b) → Passed (before (Scope (tablesOf b)) b c)
-    → c .code ≡ 5 → edgeKind b c ≡ c .kind → number ≡ 0
+pub same-kind-done : {b next : Board} {c : Command} {number : ℕ} → Decided b c number next → SoundBoard b → Passed (before (Scope (tablesOf b)) (tablesOf b) c)
+    → c .code ≡ 5 → edgeKind (tablesOf b) c ≡ c .kind → number ≡ 0
 same-kind-done {b} {c = c} {number = number} d s passed e same = first-unique (commandRefusals b c) number 0 (d .numbered)
-    (pass _ _ _ _ (λ k. k s) (first-next (before (Scope (tablesOf b)) b c) (afterwards (after b c) c) 0 passed
-    (subst (λ (x : Board). First (afterwards x c) 0) (sym (idle-change b c (s .shaped) e same))
-    (pass _ _ _ _ (s .loopless) (pass _ _ _ _ (λ o. absurd (omega (arith, o .adds, e))) (pass _ _ _ _ (λ n. n (s .managed)) none))))))
+    (pass _ _ _ _ (λ k. k s) (first-next (before (Scope (tablesOf b)) (tablesOf b) c) (afterwards (after (tablesOf b) c) c) 0 passed
+    (subst (λ (t : Tables). First (afterwards t c) 0) (sym (idle-change (tablesOf b) c (s .sound .shaped) e same))
+    (pass _ _ _ _ (s .sound .loopless) (pass _ _ _ _ (λ o. absurd (omega (arith, o .adds, e))) (pass _ _ _ _ (λ n. n (s .sound .managed)) none))))))
 
 module _ (b : Board) where
   pub one-derives : (x y : ℕ) {m n : ℕ} {p q : Bool} → DerivesAnswer b x y m p → DerivesAnswer b x y n q → (m ≡ n) × (p ≡ q)
@@ -153,48 +177,64 @@ pub one-writing : {b : Board} {entry : List ℕ} {at m n j k : ℕ} {x y : List 
 one-writing = write-unique
 
 -- a sound board has one file, and what is written is that file; reading it gives that board; every other file is refused
-pub file-written : {b : Board} {entry exit : List ℕ} {at len : ℕ} → WriteAnswer b entry at exit 0 len → take len (drop at exit) ≡ fileOf b
+pub file-written : {b : Board} {entry exit : List ℕ} {at len : ℕ} → WriteAnswer b entry at exit 0 len → take len (drop at exit) ≡ fileOf (tablesOf b)
 file-written = written-file
 
-pub file-read : (b : Board) → Sound (tablesOf b) → {number : ℕ} {board : Board} → ReadAnswer (fileOf b) number board → (number ≡ 0) × (board ≡ b)
+pub file-read : (b : Board) → SoundBoard b → {number : ℕ} {board : Board} → ReadAnswer (fileOf (tablesOf b)) number board → (number ≡ 0) × (board ≡ b)
 file-read = reads-back
 
-pub file-accepted : {f : List ℕ} {number : ℕ} {board : Board} → ReadAnswer f number board → (number ≡ 0) ↔ ((b : Board) × (f ≡ fileOf b) × Sound (tablesOf b))
+pub file-accepted : {f : List ℕ} {number : ℕ} {board : Board} → ReadAnswer f number board → (number ≡ 0) ↔ ((t : Tables) × (f ≡ fileOf t) × Sound t)
 file-accepted = accepted
 
 -- ---- demand 3: on every board reached, each live role but 0 has one line manager, and the way up by them ends at role 0
 
--- a command leaves a sound board sound: done by `sound-after`, refused by not changing it
-pub command-keeps : {b next : Board} {c : Command} {number : ℕ} → Decided b c number next → Sound (tablesOf b) → Sound (tablesOf next)
-command-keeps {b} {next} {c} {number} d s = dite (ℕ-discrete number 0)
-    (λ e. subst (λ (x : Board). Sound (tablesOf x)) (sym (d .done e)) (sound-after b c (subst (First (commandRefusals b c)) e (d .numbered))))
-    (λ n. subst (λ (x : Board). Sound (tablesOf x)) (sym (d .refused n)) s)
+-- a command leaves a sound board sound: done it promises so, which rests on `sound-after`, and refused it changes nothing
+pub command-keeps : {b next : Board} {c : Command} {number : ℕ} → Decided b c number next → SoundBoard b → SoundBoard next
+command-keeps {number = number} d s = dite (ℕ-discrete number 0) (λ e. d .done e .fit) (λ n. subst SoundBoard (sym (d .refused n)) s)
 
-pub reached-sound : {b : Board} → Reached b → Sound (tablesOf b)
+pub reached-sound : {b : Board} → Reached b → SoundBoard b
 reached-sound founding = founding-sound
 reached-sound (file r) = r .done refl .1
 reached-sound (command r d) = command-keeps d (reached-sound r)
 
 module _ {b : Board} (reached : Reached b) where
   pub exactly-one-manager : (r : ℕ) → Live (tablesOf b) r → r ≢ 0 → (m : ℕ) × LineManager (tablesOf b) m r × ((n : ℕ) → LineManager (tablesOf b) n r → n ≡ m)
-  exactly-one-manager = one-manager (reached-sound reached)
+  exactly-one-manager = one-manager (reached-sound reached .sound)
 
   -- role 0 has none,
   pub root-has-no-manager : (m : ℕ) → LineManager (tablesOf b) m 0 → ⊥
-  root-has-no-manager = no-manager (reached-sound reached)
+  root-has-no-manager = no-manager (reached-sound reached .sound)
 
   -- going up arrives at role 0, in one number of steps
   pub exactly-one-climb : (r : ℕ) → Live (tablesOf b) r → (n : ℕ) × Climb (tablesOf b) r n × ((m : ℕ) → Climb (tablesOf b) r m → m ≡ n)
-  exactly-one-climb = one-climb (reached-sound reached)
+  exactly-one-climb = one-climb (reached-sound reached .sound)
 
   -- and one way: whoever goes up meets the same roles,
   pub exactly-one-way : {r m n : ℕ} (c : Climb (tablesOf b) r m) (d : Climb (tablesOf b) r n) → met c ≡ met d
-  exactly-one-way = one-way (reached-sound reached)
+  exactly-one-way = one-way (reached-sound reached .sound)
 
   -- within (live roles - 1) steps,
   pub within-live-roles : {r n : ℕ} → Climb (tablesOf b) r n → n + 1 ≤ ones (b .live)
-  within-live-roles = climb-short (reached-sound reached)
+  within-live-roles = climb-short (reached-sound reached .sound)
 
   -- and meets no role twice
   pub no-role-twice : {r n : ℕ} (c : Climb (tablesOf b) r n) → Distinct (met c)
-  no-role-twice = climb-distinct (reached-sound reached)
+  no-role-twice = climb-distinct (reached-sound reached .sound)
+
+  -- ---- request 1: and what it keeps is document 01's derived relation, both ways round, and its line managers
+
+  pub kept-derives : (x y : ℕ) → (y isIn row (b .derives) x) ↔ Derives (tablesOf b) x y
+  kept-derives = derives-kept (reached-sound reached)
+
+  pub kept-derivers : (x y : ℕ) → (x isIn row (b .derivers) y) ↔ Derives (tablesOf b) x y
+  kept-derivers = derivers-kept (reached-sound reached)
+
+  pub kept-manager : (r : ℕ) → ManagerIs (tablesOf b) r (managerAt (b .manager) r)
+  kept-manager = manager-kept (reached-sound reached)
+
+  -- so scope and steps can be read off it
+  pub kept-scope : (a r : ℕ) → ScopeBy (b .derives) (b .derivers) a r ↔ Scope (tablesOf b) a r
+  kept-scope = scope-kept (reached-sound reached)
+
+  pub kept-steps : (r : ℕ) → Live (tablesOf b) r → Climb (tablesOf b) r (stepsUp (b .manager) 64 0 r)
+  kept-steps = steps-kept (reached-sound reached)

@@ -9,9 +9,9 @@ use lib.ListN.{length, take, drop, length-append, length-drop, take-append-drop}
 use lib.Seq.{length-take-le}
 use borrow.Rule.Slice.PartMut.{midOf, putMid}
 use Rattle.sets.specs.Sets.{bit}
-use Rattle.hierarchy.specs.Words.{Sound}
+use Rattle.hierarchy.specs.Tables.{Tables}
 use Rattle.hierarchy.specs.First.{First}
-use Rattle.board.specs.Boards.{tablesOf}
+use Rattle.board.specs.Boards.{SoundBoard}
 use Rattle.board.specs.declared.Board.{Board}
 use Rattle.boardfile.specs.Files.{from, edge?, edgeBytes, kindAt, bytesOf, fileOf}
 use Rattle.boardfile.specs.Parts.{Put, Room, PutAnswer}
@@ -23,22 +23,22 @@ use Rattle.boardfile.proofs.Puts.{put-part}
 
 -- ---- the sizes
 
-module _ (b : Board) {roles n : ℕ} (fits : b .live < 2 ^ 64) (r : roles ≡ ones (b .live)) (e : n ≡ length (from 4096 0 (edge? (kindAt (tablesOf b))))) where
-  role-bytes : roles ≡ length (from 64 0 (bit (b .live)))
-  role-bytes = r ∙ sym (ones-from 64 (b .live) fits)
+module _ (t : Tables) {roles n : ℕ} (fits : t .live < 2 ^ 64) (r : roles ≡ ones (t .live)) (e : n ≡ length (from 4096 0 (edge? (kindAt t)))) where
+  role-bytes : roles ≡ length (from 64 0 (bit (t .live)))
+  role-bytes = r ∙ sym (ones-from 64 (t .live) fits)
 
-  edge-bytes : 3 * n ≡ length (edgeBytes (kindAt (tablesOf b)) 4096 0)
+  edge-bytes : 3 * n ≡ length (edgeBytes (kindAt t) 4096 0)
   unfolding edgeBytes
-  edge-bytes = ap (λ (m : ℕ). 3 * m) e ∙ sym (records-length (kindAt (tablesOf b)) (from 4096 0 (edge? (kindAt (tablesOf b)))))
+  edge-bytes = ap (λ (m : ℕ). 3 * m) e ∙ sym (records-length (kindAt t) (from 4096 0 (edge? (kindAt t))))
 
   pub sizes-few : (roles ≤ 64) × (n ≤ 4096)
-  sizes-few = (omega (arith, role-bytes, from-short 64 0 (bit (b .live))), omega (arith, from-short 4096 0 (edge? (kindAt (tablesOf b)))))
+  sizes-few = (omega (arith, role-bytes, from-short 64 0 (bit (t .live))), omega (arith, from-short 4096 0 (edge? (kindAt t))))
 
-  pub file-long : roles + 3 * n + 6 ≡ length (fileOf b)
+  pub file-long : roles + 3 * n + 6 ≡ length (fileOf t)
   unfolding fileOf bytesOf
-  file-long = omega (arith, role-bytes, edge-bytes, whole-length (from 64 0 (bit (b .live))) (edgeBytes (kindAt (tablesOf b)) 4096 0))
+  file-long = omega (arith, role-bytes, edge-bytes, whole-length (from 64 0 (bit (t .live))) (edgeBytes (kindAt t) 4096 0))
 
-  pub file-room : (out : List ℕ) (at : ℕ) → at ≤ length out → roles + 3 * n + 6 ≤ length out - at → Room b roles (3 * n) (midOf at (length out - at) out)
+  pub file-room : (out : List ℕ) (at : ℕ) → at ≤ length out → roles + 3 * n + 6 ≤ length out - at → Room t roles (3 * n) (midOf at (length out - at) out)
   file-room out at l h = record {
     role-bytes = role-bytes;
     edge-bytes = edge-bytes;
@@ -47,29 +47,29 @@ module _ (b : Board) {roles n : ℕ} (fits : b .live < 2 ^ 64) (r : roles ≡ on
 
 -- ---- the answers
 
-module _ {b : Board} {entry : List ℕ} {at : ℕ} where
-  pub unsound-file : (Sound (tablesOf b) → ⊥) → WriteAnswer b entry at entry 1 0
-  unfolding First
-  unsound-file h = record { numbered = inl (h, refl); done = λ e. absurd (omega arith); refused = λ _. (refl, refl) }
+pub unsound-file : {b : Board} {entry : List ℕ} {at : ℕ} → (SoundBoard b → ⊥) → WriteAnswer b entry at entry 1 0
+unfolding First
+unsound-file h = record { numbered = inl (h, refl); done = λ e. absurd (omega arith); refused = λ _. (refl, refl) }
 
-  pub no-room : NoRoom b entry at → PutAnswer b entry at entry 12 0
+module _ {t : Tables} {entry : List ℕ} {at : ℕ} where
+  pub no-room : NoRoom t entry at → PutAnswer t entry at entry 12 0
   unfolding First
   no-room h = record { numbered = inl (h, refl); done = λ e. absurd (omega arith); refused = λ _. (refl, refl) }
 
-  pub filed : (len : ℕ) → len ≡ length (fileOf b) → at ≤ length entry → len ≤ length entry - at
-      → (part : List ℕ) → Put (fileOf b) (midOf at (length entry - at) entry) part → PutAnswer b entry at (putMid at (length entry - at) entry part) 0 len
+  pub filed : (len : ℕ) → len ≡ length (fileOf t) → at ≤ length entry → len ≤ length entry - at
+      → (part : List ℕ) → Put (fileOf t) (midOf at (length entry - at) entry) part → PutAnswer t entry at (putMid at (length entry - at) entry part) 0 len
   unfolding First
   filed len e l h part p = record { numbered = inr (room, refl); done = λ _. (e, bytes); refused = λ n. absurd (n refl) }
     where
-      room : NoRoom b entry at → ⊥
+      room : NoRoom t entry at → ⊥
       room (past-end g) = omega arith
       room (too-few g) = omega arith
 
       front : length (take at entry) ≡ at
       front = length-take-le at entry l
 
-      bytes : putMid at (length entry - at) entry part ≡ take at entry ++ fileOf b ++ drop (at + length (fileOf b)) entry
+      bytes : putMid at (length entry - at) entry part ≡ take at entry ++ fileOf t ++ drop (at + length (fileOf t)) entry
       bytes =
-          put-part (take at entry) (fileOf b) entry entry part at (length entry - at)
+          put-part (take at entry) (fileOf t) entry entry part at (length entry - at)
           (sym (take-append-drop at entry) ∙ ap (λ (n : ℕ). take at entry ++ drop n entry) (sym front)) (sym front) (omega arith) (omega arith) p
-          ∙ ap (λ (n : ℕ). take at entry ++ fileOf b ++ drop n entry) (length-append (take at entry) (fileOf b) ∙ ap (λ (n : ℕ). n + length (fileOf b)) front)
+          ∙ ap (λ (n : ℕ). take at entry ++ fileOf t ++ drop n entry) (length-append (take at entry) (fileOf t) ∙ ap (λ (n : ℕ). n + length (fileOf t)) front)

@@ -1,7 +1,7 @@
--- Two boards with the same file are one board. Assumes nothing.
-use mathlib.Core.Path.{_≡_, refl, sym, ap, ap₂, _∙_}
+-- Two boards with the same file have the same tables, and where they are sound, they are one board. Assumes nothing.
+use mathlib.Core.Path.{_≡_, refl, sym, ap, ap₂, _∙_, subst}
 use mathlib.Core.Bool.{Bool, true, false}
-use mathlib.Core.Logic.{⊎-elim}
+use mathlib.Core.Logic.{⊎-elim, _↔_}
 use mathlib.Core.List.{List}
 use Prim.Native.Nat.{ℕ, _+_, _*_, _/_, _%_, _^_, _<_, zero-le}
 use native.Mathlib.Omega.{arith}
@@ -13,9 +13,10 @@ use Rattle.sets.specs.Sets.{bit}
 use Rattle.sets.proofs.Bools.{true-or-false}
 use Rattle.sets.proofs.Laws.{ext}
 use Rattle.hierarchy.specs.Tables.{Tables, Shaped, row, kindOf, kind}
-use Rattle.board.specs.Boards.{tablesOf}
+use Rattle.board.specs.Boards.{tablesOf, SoundBoard}
 use Rattle.board.specs.Effects.{hasI, hasA}
 use Rattle.board.specs.declared.Board.{Board}
+use Rattle.board.proofs.Settled.{one-board as one-sound-board}
 use Rattle.boardfile.specs.Files.{from, records, edge?, edgeBytes, bytesOf, kindAt, fileOf}
 use Rattle.boardfile.specs.Faults.{edgeDistance, roleCount}
 use Rattle.boardfile.specs.Answers.{IsFile}
@@ -108,27 +109,35 @@ rows-same : (t t′ : List ℕ) → length t ≡ 64 → length t′ ≡ 64 → (
     → ((x y : ℕ) → x < 64 → y < 64 → bit (row t x) y ≡ bit (row t′ x) y) → t ≡ t′
 rows-same t t′ n n′ s s′ h = ext-getD 0 t t′ (n ∙ sym n′) (λ x l. ext 64 (row t x) (row t′ x) (s x) (s′ x) (λ y m. h x y (omega arith) m))
 
-pub file-injective : (b b′ : Board) → Shaped (tablesOf b) → Shaped (tablesOf b′) → fileOf b ≡ fileOf b′ → b ≡ b′
+pub file-injective : (t t′ : Tables) → Shaped t → Shaped t′ → fileOf t ≡ fileOf t′ → t ≡ t′
 unfolding fileOf
-file-injective b b′ s s′ e = λ k. record { live = live k; i = i k; a = a k }
+file-injective t t′ s s′ e = λ k. record { live = live k; i = i k; a = a k }
   where
-    kinds : (x y : ℕ) → x < 64 → y < 64 → kind (tablesOf b) x y ≡ kind (tablesOf b′) x y
+    kinds : (x y : ℕ) → x < 64 → y < 64 → kind t x y ≡ kind t′ x y
     kinds x y l m =
-        sym (at-place (tablesOf b) x y m)
-        ∙ same-kinds (bit (b .live)) (bit (b′ .live)) (kindAt (tablesOf b)) (kindAt (tablesOf b′)) e (x * 64 + y) (omega arith)
-        ∙ at-place (tablesOf b′) x y m
+        sym (at-place t x y m)
+        ∙ same-kinds (bit (t .live)) (bit (t′ .live)) (kindAt t) (kindAt t′) e (x * 64 + y) (omega arith)
+        ∙ at-place t′ x y m
 
-    live : b .live ≡ b′ .live
-    live = ext 64 (b .live) (b′ .live) (s .live-fits) (s′ .live-fits) (same-lives (bit (b .live)) (bit (b′ .live)) (kindAt (tablesOf b)) (kindAt (tablesOf b′)) e)
+    live : t .live ≡ t′ .live
+    live = ext 64 (t .live) (t′ .live) (s .live-fits) (s′ .live-fits) (same-lives (bit (t .live)) (bit (t′ .live)) (kindAt t) (kindAt t′) e)
 
-    i : b .i ≡ b′ .i
-    i = rows-same (b .i) (b′ .i) (s .i-rows) (s′ .i-rows) (s .i-fits) (s′ .i-fits)
-        (λ x y l m. bit-i (tablesOf b) x y ∙ ap hasI (kinds x y l m) ∙ sym (bit-i (tablesOf b′) x y))
+    i : t .i ≡ t′ .i
+    i = rows-same (t .i) (t′ .i) (s .i-rows) (s′ .i-rows) (s .i-fits) (s′ .i-fits)
+        (λ x y l m. bit-i t x y ∙ ap hasI (kinds x y l m) ∙ sym (bit-i t′ x y))
 
-    a : b .a ≡ b′ .a
-    a = rows-same (b .a) (b′ .a) (s .a-rows) (s′ .a-rows) (s .a-fits) (s′ .a-fits)
-        (λ x y l m. bit-a (tablesOf b) x y ∙ ap hasA (kinds x y l m) ∙ sym (bit-a (tablesOf b′) x y))
+    a : t .a ≡ t′ .a
+    a = rows-same (t .a) (t′ .a) (s .a-rows) (s′ .a-rows) (s .a-fits) (s′ .a-fits)
+        (λ x y l m. bit-a t x y ∙ ap hasA (kinds x y l m) ∙ sym (bit-a t′ x y))
 
--- a file is the file of one board
-pub one-board : {f : List ℕ} {b b′ : Board} → IsFile f b → IsFile f b′ → b ≡ b′
-one-board {b = b} {b′ = b′} h h′ = file-injective b b′ (h .shaped) (h′ .shaped) (sym (h .bytes) ∙ h′ .bytes)
+-- a file is the file of one board's tables
+pub one-tables : {f : List ℕ} {t t′ : Tables} → IsFile f t → IsFile f t′ → t ≡ t′
+one-tables {t = t} {t′ = t′} h h′ = file-injective t t′ (h .shaped) (h′ .shaped) (sym (h .bytes) ∙ h′ .bytes)
+
+-- so what holds of them is what holds of any that have this file
+pub named-by : {f : List ℕ} {t : Tables} → IsFile f t → (P : Tables → Type 0) → P t ↔ ((s : Tables) × IsFile f s × P s)
+named-by {t = t} is P = (λ h. (t, is, h), λ w. subst P (one-tables (w .1) is) (w .2))
+
+-- and a sound board is the only one with its file
+pub one-board : {f : List ℕ} {b c : Board} → IsFile f (tablesOf b) × SoundBoard b → IsFile f (tablesOf c) × SoundBoard c → b ≡ c
+one-board p q = one-sound-board (p .1) (q .1) (one-tables (p .0) (q .0))

@@ -12,11 +12,9 @@ use lib.ListN.{length, take, drop}
 use borrow.Author.Tests.{eq-eqb, ne-eqb}
 use Rattle.sets.specs.Sets.{bit}
 use Rattle.sets.proofs.Bools.{cond-elim}
-use Rattle.hierarchy.specs.Tables.{tables, kind}
+use Rattle.hierarchy.specs.Tables.{Tables, tables, kind}
 use Rattle.hierarchy.specs.First.{First}
-use Rattle.board.specs.Boards.{tablesOf, boardOf}
 use Rattle.board.specs.Questions.{misnamed}
-use Rattle.board.specs.declared.Board.{Board}
 use Rattle.board.proofs.Asking.{asked-0, asked-2, asked-3, answer-refused, answer-done}
 use Rattle.boardfile.specs.Files.{from, edge?, edgeBytes, kindAt, fileOf, stretchOf, startOf}
 use Rattle.boardfile.specs.Parts.{kindsIn, PlaceAnswer}
@@ -28,7 +26,7 @@ use Rattle.boardfile.specs.Answers.{startOrNone, Stands}
 
 -- a count of the edges below a senior says where its records start; the kinds are a matter of the tables, whoever lives
 pub count-at : (live : ℕ) (i a : List ℕ) (n s size : ℕ) → n ≡ length (from (s * 64) 0 (edge? (kindsIn i a))) → live < 2 ^ 64 → size ≡ ones live
-    → size + 3 * n ≡ startOf (boardOf live i a) s
+    → size + 3 * n ≡ startOf (tables live i a) s
 unfolding startOf edgeBytes kindAt kind
 count-at live i a n s size count fits is =
     let kinds = kindAt (tables live i a) in
@@ -38,61 +36,61 @@ count-at live i a n s size count fits is =
 pub spanned : (Answer : ℕ → ℕ → ℕ → Type 0) {number m start len : ℕ} → (m ≡ number) × (start ≡ 0) × (len ≡ 0) → Answer number 0 0 → Answer m start len
 spanned Answer e a = rw (e .0, e .1, e .2) a
 
-module _ (b : Board) (role : ℕ) where
-  pub starts-low : role ≤ 64 → startOf b role ≤ 12352
+module _ (t : Tables) (role : ℕ) where
+  pub starts-low : role ≤ 64 → startOf t role ≤ 12352
   unfolding startOf
-  starts-low l = omega (arith, from-short 64 0 (bit (b .live)), edge-few (role * 64) 0 (kindAt (tablesOf b)))
+  starts-low l = omega (arith, from-short 64 0 (bit (t .live)), edge-few (role * 64) 0 (kindAt t))
 
   -- ---- the answers
 
-  pub too-high : 63 < role → PlaceAnswer b role 2 0 0
-  too-high h = answer-refused (asked-2 (b .live) role role (inl h)) (λ z. omega (arith, z))
+  pub too-high : 63 < role → PlaceAnswer t role 2 0 0
+  too-high h = answer-refused (asked-2 (t .live) role role (inl h)) (λ z. omega (arith, z))
 
-  pub not-live : role ≤ 63 → bit (b .live) role ≡ false → PlaceAnswer b role 3 0 0
-  not-live l h = answer-refused (asked-3 (b .live) role role (omega arith) (omega arith) (inl h)) (λ z. omega (arith, z))
+  pub not-live : role ≤ 63 → bit (t .live) role ≡ false → PlaceAnswer t role 3 0 0
+  not-live l h = answer-refused (asked-3 (t .live) role role (omega arith) (omega arith) (inl h)) (λ z. omega (arith, z))
 
-  module _ (l : role ≤ 63) (h : bit (b .live) role ≡ true) (start end : ℕ) (s : start ≡ startOf b role) (e : end ≡ startOf b (role + 1)) where
-    numbered : First (misnamed (b .live) role role) 0
-    numbered = asked-0 (b .live) role role (omega arith) (omega arith) h h
+  module _ (l : role ≤ 63) (h : bit (t .live) role ≡ true) (start end : ℕ) (s : start ≡ startOf t role) (e : end ≡ startOf t (role + 1)) where
+    numbered : First (misnamed (t .live) role role) 0
+    numbered = asked-0 (t .live) role role (omega arith) (omega arith) h h
 
-    pub no-records : end - start ≡ 0 → PlaceAnswer b role 0 0 0
+    pub no-records : end - start ≡ 0 → PlaceAnswer t role 0 0 0
     unfolding startOrNone
     no-records z =
-        let n : length (stretchOf b role) ≡ 0 = omega (arith, up-to-it b role (omega arith)) in
-        answer-done numbered refl (rw (eq-eqb (length (stretchOf b role)) 0 n), sym n)
+        let n : length (stretchOf t role) ≡ 0 = omega (arith, up-to-it t role (omega arith)) in
+        answer-done numbered refl (rw (eq-eqb (length (stretchOf t role)) 0 n), sym n)
 
-    pub some-records : end - start ≢ 0 → PlaceAnswer b role 0 start (end - start)
+    pub some-records : end - start ≢ 0 → PlaceAnswer t role 0 start (end - start)
     unfolding startOrNone
     some-records z = answer-done numbered refl
-        (s ∙ rw (ne-eqb (length (stretchOf b role)) 0 (λ n. z (omega (arith, up-to-it b role (omega arith))))), omega (arith, up-to-it b role (omega arith)))
+        (s ∙ rw (ne-eqb (length (stretchOf t role)) 0 (λ n. z (omega (arith, up-to-it t role (omega arith))))), omega (arith, up-to-it t role (omega arith)))
 
   -- ---- both numbers take less than 16 bits
 
-  start-small : role < 64 → startOrNone b role < 2 ^ 16
+  start-small : role < 64 → startOrNone t role < 2 ^ 16
   unfolding startOrNone
-  start-small l = cond-elim (λ (n : ℕ). n < 2 ^ 16) (eqb (length (stretchOf b role)) 0) 0 (startOf b role) (λ _. omega arith) (λ _. omega (arith, starts-low (omega arith)))
+  start-small l = cond-elim (λ (n : ℕ). n < 2 ^ 16) (eqb (length (stretchOf t role)) 0) 0 (startOf t role) (λ _. omega arith) (λ _. omega (arith, starts-low (omega arith)))
 
-  stretch-small : length (stretchOf b role) ≤ 192
+  stretch-small : length (stretchOf t role) ≤ 192
   unfolding stretchOf
-  stretch-small = edge-few 64 (role * 64) (kindAt (tablesOf b))
+  stretch-small = edge-few 64 (role * 64) (kindAt t)
 
-  pub stands-small : (start len : ℕ) → role < 64 → Stands role b (start, len) → (start < 2 ^ 16) × (len < 2 ^ 16)
+  pub stands-small : (start len : ℕ) → role < 64 → Stands role t (start, len) → (start < 2 ^ 16) × (len < 2 ^ 16)
   stands-small start len l p = (omega (arith, p .0, start-small l), omega (arith, p .1, stretch-small))
 
   -- what the place names lies in the file, and is the stretch
-  pub place-inside : role < 64 → startOrNone b role + length (stretchOf b role) ≤ length (fileOf b)
+  pub place-inside : role < 64 → startOrNone t role + length (stretchOf t role) ≤ length (fileOf t)
   unfolding startOrNone
-  place-inside l = cond-elim (λ (n : ℕ). n + length (stretchOf b role) ≤ length (fileOf b)) (eqb (length (stretchOf b role)) 0) 0 (startOf b role)
-      (λ _. omega (arith, up-to-it b role l, stretch-inside b role l)) (λ _. omega (arith, up-to-it b role l, stretch-inside b role l))
+  place-inside l = cond-elim (λ (n : ℕ). n + length (stretchOf t role) ≤ length (fileOf t)) (eqb (length (stretchOf t role)) 0) 0 (startOf t role)
+      (λ _. omega (arith, up-to-it t role l, stretch-inside t role l)) (λ _. omega (arith, up-to-it t role l, stretch-inside t role l))
 
-  pub place-is : role < 64 → take (length (stretchOf b role)) (drop (startOrNone b role) (fileOf b)) ≡ stretchOf b role
+  pub place-is : role < 64 → take (length (stretchOf t role)) (drop (startOrNone t role) (fileOf t)) ≡ stretchOf t role
   unfolding startOrNone
-  place-is l = dite (ℕ-discrete (length (stretchOf b role)) 0)
-      (nothing (stretchOf b role))
+  place-is l = dite (ℕ-discrete (length (stretchOf t role)) 0)
+      (nothing (stretchOf t role))
       (λ n.
-      let whole : length (stretchOf b role) ≡ startOf b (role + 1) - startOf b role = omega (arith, up-to-it b role l) in
-      rw (ne-eqb (length (stretchOf b role)) 0 n, whole) (stretch-is b role l))
+      let whole : length (stretchOf t role) ≡ startOf t (role + 1) - startOf t role = omega (arith, up-to-it t role l) in
+      rw (ne-eqb (length (stretchOf t role)) 0 n, whole) (stretch-is t role l))
     where
-      nothing : (t : List ℕ) → length t ≡ 0 → take (length t) (drop (startOrNone b role) (fileOf b)) ≡ t
+      nothing : (p : List ℕ) → length p ≡ 0 → take (length p) (drop (startOrNone t role) (fileOf t)) ≡ p
       nothing [] e = refl
-      nothing (x ∷ t) e = absurd (omega arith)
+      nothing (x ∷ p) e = absurd (omega arith)

@@ -1,7 +1,7 @@
 -- From the parts that are read to the reader's answer. Assumes nothing.
 use mathlib.Core.Path.{_≡_, refl, sym, ap, ap₂, _∙_, subst}
 use mathlib.Core.Bool.{Bool, true, false}
-use mathlib.Core.Logic.{inl, inr, ⊎-elim, _≢_, _↔_}
+use mathlib.Core.Logic.{inl, inr, ⊎-elim, _≢_, Iff·rfl}
 use mathlib.Core.List.{List, [], _∷_, _++_, append-assoc}
 use Prim.Native.Nat.{ℕ, _+_, _*_, _/_, _%_, _^_, _≤_, _<_}
 use native.Mathlib.Omega.{arith}
@@ -13,21 +13,19 @@ use Rattle.sets.proofs.Digits.{bit-out}
 use Rattle.hierarchy.specs.Tables.{Tables, tables, row, Shaped, kindOf, kind}
 use Rattle.hierarchy.specs.Words.{Joined, Loops, Managed}
 use Rattle.hierarchy.specs.First.{First}
-use Rattle.hierarchy.specs.Views.{Settled, Turned, ManagedBy}
-use Rattle.hierarchy.proofs.FirstLaws.{hit, pass, none}
-use Rattle.hierarchy.proofs.Order.{order-loopless}
-use Rattle.hierarchy.proofs.ViewLaws.{in-order-is, settled-views}
-use Rattle.board.specs.Boards.{tablesOf, boardOf, foundingBoard}
-use Rattle.board.specs.Looks.{Viewed}
+use Rattle.hierarchy.specs.Views.{InOrder, WorkedOut}
+use Rattle.hierarchy.proofs.FirstLaws.{pass}
+use Rattle.board.specs.Boards.{boardOf, foundingBoard, SoundBoard}
 use Rattle.board.specs.declared.Board.{Board}
-use Rattle.board.proofs.Looking.{holds, fails, managed-by, disordered-loops}
+use Rattle.board.proofs.Rules.{first-alike}
+use Rattle.board.proofs.Looking.{disordered-loops, worked-sound, worked-right}
 use Rattle.boardfile.specs.Files.{from, edgeBytes, kindAt, trailer, bytesOf, fileOf}
 use Rattle.boardfile.specs.Faults.{BadFrame, BadRecord}
 use Rattle.boardfile.specs.Parts.{GoodFrame, GoodRoles, GoodEdges, Opening}
-use Rattle.boardfile.specs.Answers.{IsFile, refusals, ReadAnswer}
+use Rattle.boardfile.specs.Answers.{IsFile, refusals, ReadAnswer, ReadInto}
 use Rattle.boardfile.proofs.Bytes.{whole}
 use Rattle.boardfile.proofs.Faultless.{Tidy, good-records}
-use Rattle.boardfile.proofs.OneFile.{at-place, one-board}
+use Rattle.boardfile.proofs.OneFile.{at-place, named-by}
 
 -- ---- kinds
 
@@ -51,7 +49,7 @@ edge-junior t fi fa x y h = ⊎-elim
 -- ---- the parts together
 
 module _ {f : List ℕ} {n m live : ℕ} {i a : List ℕ} (frame : GoodFrame f n m) (roles : GoodRoles f n live) (edges : GoodEdges f n m live i a) where
-  pub is-file : IsFile f (boardOf live i a)
+  pub is-file : IsFile f (tables live i a)
   unfolding fileOf bytesOf
   is-file = record { shaped = shaped; bytes = bytes }
     where
@@ -103,93 +101,65 @@ module _ {f : List ℕ} {n m live : ℕ} {i a : List ℕ} (frame : GoodFrame f n
 
 -- ---- the answers
 
-module _ {f : List ℕ} {n live : ℕ} {i a down up : List ℕ} where
-  pub refused-frame : BadFrame f → n ≡ 10 → Opening f n live i a down up
+module _ {f : List ℕ} {n live : ℕ} {i a d u ms : List ℕ} where
+  pub refused-frame : BadFrame f → n ≡ 10 → Opening f n live i a d u ms
   unfolding First
   refused-frame h e = record { numbered = inl (h, e); done = λ z. absurd (omega arith) }
 
-  pub refused-record : (BadFrame f → ⊥) → BadRecord f → n ≡ 11 → Opening f n live i a down up
+  pub refused-record : (BadFrame f → ⊥) → BadRecord f → n ≡ 11 → Opening f n live i a d u ms
   unfolding First
   refused-record g h e = record { numbered = inr (g, inl (h, e)); done = λ z. absurd (omega arith) }
 
 -- what a board's own trouble says of the file
-module _ {f : List ℕ} {b : Board} (number : ℕ) (frame : BadFrame f → ⊥) (record′ : BadRecord f → ⊥) (is : IsFile f b)
-    (t : First ((7, Loops (tablesOf b)) ∷ (9, (Managed (tablesOf b) → ⊥)) ∷ []) number) where
+module _ {f : List ℕ} {t : Tables} (number : ℕ) (frame : BadFrame f → ⊥) (record′ : BadRecord f → ⊥) (is : IsFile f t)
+    (own : First ((7, Loops t) ∷ (9, (Managed t → ⊥)) ∷ []) number) where
   numbered : First (refusals f) number
-  unfolding First
-  numbered = inr (
-    frame,
-    inr (
-      record′,
-      ⊎-elim
-          (λ h. inl ((b, is, h .0), h .1))
-          (λ r. inr (
-            loopless (r .0),
-            ⊎-elim
-                (λ h. inl ((b, is, h .0), h .1))
-                (λ h. inr (λ w. h .0 (subst (λ (c : Board). Managed (tablesOf c) → ⊥) (one-board (w .1) is) (w .2)), h .1))
-                (r .1),
-          ))
-          t,
-    ),
-  )
-    where
-      loopless : (Loops (tablesOf b) → ⊥) → ((b′ : Board) × IsFile f b′ × Loops (tablesOf b′)) → ⊥
-      loopless n w = n (subst (λ (c : Board). Loops (tablesOf c)) (one-board (w .1) is) (w .2))
+  numbered = pass _ _ _ _ frame (pass _ _ _ _ record′ (first-alike
+      ((7, Loops t) ∷ (9, (Managed t → ⊥)) ∷ [])
+      ((7, ((s : Tables) × IsFile f s × Loops s)) ∷ (9, ((s : Tables) × IsFile f s × (Managed s → ⊥))) ∷ [])
+      [] [] number (refl, named-by is Loops, (refl, named-by is (λ s. Managed s → ⊥), tt)) (λ _ g. g) own))
 
 -- where neither frame nor record has a fault, it is the board that may be in trouble
-module _ {f : List ℕ} {live n m settled : ℕ} {i a down : List ℕ}
+module _ {f : List ℕ} {live n m number : ℕ} {i a du mu d u ms : List ℕ}
     (frame : GoodFrame f n m) (roles : GoodRoles f n live) (edges : GoodEdges f n m live i a)
-    (w : Settled (tables live i a) settled down) where
-  shaped : Shaped (tables live i a)
+    (w : WorkedOut (tables live i a) du mu number d u ms) where
+  abbrev t : Tables
+  t = tables live i a
+
+  shaped : Shaped t
   shaped = is-file frame roles edges .shaped
 
-  abbrev Trouble : ℕ → Type 0
-  Trouble = First ((7, Loops (tables live i a)) ∷ (9, (Managed (tables live i a) → ⊥)) ∷ [])
+  trouble : First (refusals f) number
+  trouble = numbered number (frame .faultless) (faultless frame roles edges) (is-file frame roles edges)
+      (first-alike ((7, (InOrder t → ⊥)) ∷ (9, (Managed t → ⊥)) ∷ []) ((7, Loops t) ∷ (9, (Managed t → ⊥)) ∷ []) [] [] number (refl, disordered-loops shaped (joined frame roles edges), (refl, Iff·rfl, tt)) (λ _ g. g) (w .numbered))
 
-  trouble : (number : ℕ) → Trouble number → First (refusals f) number
-  trouble number t = numbered number (frame .faultless) (faultless frame roles edges) (is-file frame roles edges) t
+  pub opened-not : {k l : ℕ} → number ≢ 0 → k ≡ number → Opening f k l i a d u ms
+  opened-not z e = record { numbered = subst (First (refusals f)) (sym e) trouble; done = λ q. absurd (z (sym e ∙ q)) }
 
-  pub opened-7 : {number l : ℕ} {up : List ℕ} → (settled ≡ live → ⊥) → number ≡ 7 → Opening f number l i a down up
-  opened-7 e z = record {
-    numbered = subst (First (refusals f)) (sym z) (trouble 7 (hit _ _ _ (disordered-loops shaped (joined frame roles edges) .0 (λ o. e (in-order-is w .1 o)))));
-    done = λ k. absurd (omega arith);
+  pub opened : number ≡ 0 → Opening f 0 live i a d u ms
+  opened z = record {
+    numbered = subst (First (refusals f)) z trouble;
+    done = λ _. (is-file frame roles edges, record { sound = worked-sound w shaped (roles .root) (joined frame roles edges) z; right = worked-right w z });
   }
-
-  module _ {up : List ℕ} (e : settled ≡ live) (u : Turned live down up) {managed : Bool} (is : (managed ≡ true) ↔ ManagedBy live down up) where
-    loopless : Loops (tables live i a) → ⊥
-    loopless = order-loopless (roles .fits) (joined frame roles edges) .0 (in-order-is w .0 e)
-
-    pub opened-9 : {number l : ℕ} → managed ≡ false → number ≡ 9 → Opening f number l i a down up
-    opened-9 h z = record {
-      numbered = subst (First (refusals f)) (sym z) (trouble 9 (pass _ _ _ _ loopless (hit _ _ _ (λ k. fails is h (managed-by (settled-views w e u) .1 k)))));
-      done = λ k. absurd (omega arith);
-    }
-
-    pub opened : managed ≡ true → Opening f 0 live i a down up
-    opened h = let all = managed-by (settled-views w e u) .0 (holds is h) in record {
-      numbered = trouble 0 (pass _ _ _ _ loopless (pass _ _ _ _ (λ k. k all) none));
-      done = λ _. (
-        is-file frame roles edges,
-        record {
-          sound = record { shaped = shaped; joined = joined frame roles edges; loopless = loopless; root = roles .root; managed = all };
-          seen = settled-views w e u;
-        },
-      );
-    }
 
 -- ---- what a file that was opened says to the rest
 
-module _ {f : List ℕ} {number live : ℕ} {i a down up : List ℕ} (o : Opening f number live i a down up) where
+module _ {f : List ℕ} {number live : ℕ} {i a d u ms : List ℕ} (o : Opening f number live i a d u ms) where
   pub read-refused : number ≢ 0 → ReadAnswer f number foundingBoard
   read-refused z = record { numbered = o .numbered; done = λ e. absurd (z e); refused = λ _. refl }
 
+  pub into-refused : (entry : Board) → number ≢ 0 → ReadInto f entry entry number
+  into-refused entry z = record { numbered = o .numbered; done = λ e. absurd (z e); refused = λ _. refl }
+
   module _ (z : number ≡ 0) where
-    pub viewed : Viewed (boardOf live i a) down up
-    viewed = o .done z .1
+    pub sound : SoundBoard (boardOf live i a d u ms)
+    sound = o .done z .1
 
     pub passed : First (refusals f) 0
     passed = subst (First (refusals f)) z (o .numbered)
 
-    pub read-done : ReadAnswer f 0 (boardOf live i a)
-    read-done = record { numbered = passed; done = λ _. (o .done z .0, viewed .sound); refused = λ n. absurd (n refl) }
+    pub read-done : ReadAnswer f 0 (boardOf live i a d u ms)
+    read-done = record { numbered = passed; done = λ _. o .done z; refused = λ n. absurd (n refl) }
+
+    pub into-done : (entry : Board) → ReadInto f entry (boardOf live i a d u ms) 0
+    into-done entry = record { numbered = passed; done = λ _. read-done; refused = λ n. absurd (n refl) }

@@ -6,6 +6,7 @@ use mathlib.Core.List.{List}
 use Prim.Native.Nat.{ℕ, _+_}
 use native.Mathlib.Decide.{ℕ-discrete}
 use native.Mathlib.Omega.{arith}
+use Rattle.hierarchy.specs.Tables.{Tables}
 use Rattle.hierarchy.specs.First.{First}
 use Rattle.hierarchy.specs.Words.{Sound}
 use Rattle.hierarchy.proofs.ClimbLaws.{climb-unique}
@@ -18,9 +19,9 @@ use Rattle.board.specs.declared.questions.Manager.{Manager}
 use Rattle.board.proofs.Settled.{decided-unique, answered-unique, says-unique, counts-unique, manages-unique}
 use Rattle.boardfile.specs.declared.commands.Place.{Place}
 use Rattle.boardfile.specs.Files.{stretchOf}
-use Rattle.boardfile.specs.Answers.{refusals, ReadAnswer, askedRefusals, OfFile, DerivesOnFile, ScopeOnFile, ManagerOnFile, StepsOnFile, startOrNone, BoundsAnswer, StretchAnswer, StretchOf, writeRefusals, WriteAnswer}
+use Rattle.boardfile.specs.Answers.{refusals, ReadAnswer, ReadInto, askedRefusals, OfFile, DerivesOnFile, ScopeOnFile, ManagerOnFile, StepsOnFile, startOrNone, BoundsAnswer, StretchAnswer, StretchOf, writeRefusals, WriteAnswer}
 use Rattle.boardfile.specs.Answers.{CommandAnswer, CommandAnswer.unread, CommandAnswer.refused, CommandAnswer.no-room, CommandAnswer.done}
-use Rattle.boardfile.proofs.OneFile.{one-board}
+use Rattle.boardfile.proofs.OneFile.{one-tables, one-board}
 
 -- by whether the common number is 0
 by-number : {P : Type 0} (n : ℕ) → (n ≡ 0 → P) → (n ≢ 0 → P) → P
@@ -32,7 +33,17 @@ read-unique {f} {m} {n} r s =
     let e = first-unique (refusals f) m n (r .numbered) (s .numbered) in (
       e,
       by-number m
-          (λ z. one-board (r .done z .0) (s .done (sym e ∙ z) .0))
+          (λ z. one-board (r .done z) (s .done (sym e ∙ z)))
+          (λ z. r .refused z ∙ sym (s .refused (λ w. z (e ∙ w)))),
+    )
+
+-- read into a board that is lent
+pub read-into-unique : {f : List ℕ} {entry x y : Board} {m n : ℕ} → ReadInto f entry x m → ReadInto f entry y n → (m ≡ n) × (x ≡ y)
+read-into-unique {f} {m = m} {n = n} r s =
+    let e = first-unique (refusals f) m n (r .numbered) (s .numbered) in (
+      e,
+      by-number m
+          (λ z. read-unique (r .done z) (s .done (sym e ∙ z)) .1)
           (λ z. r .refused z ∙ sym (s .refused (λ w. z (e ∙ w)))),
     )
 
@@ -51,7 +62,7 @@ write-unique {b} {entry} {at} {m} {n} r s =
 of-file-unique : {A : Type 0} {f : List ℕ} {Right : Board → A → Type 0} → ((b : Board) → Sound (tablesOf b) → (v w : A) → Right b v → Right b w → v ≡ w)
     → (v w : A) → OfFile f Right v → OfFile f Right w → v ≡ w
 of-file-unique {Right = Right} one v w p q =
-    one (q .0) (q .1 .done refl .1) v w (subst (λ (b : Board). Right b v) (read-unique (p .1) (q .1) .1) (p .2)) (q .2)
+    one (q .0) (q .1 .done refl .1 .sound) v w (subst (λ (b : Board). Right b v) (read-unique (p .1) (q .1) .1) (p .2)) (q .2)
 
 module _ (f : List ℕ) where
   pub check-unique : (m n : ℕ) → First (refusals f) m → First (refusals f) n → m ≡ n
@@ -81,8 +92,8 @@ module _ (f : List ℕ) where
   answer-one role r s =
       let e = first-unique (askedRefusals f role role) (r .number) (s .number) (r .numbered) (s .numbered) in
       by-number (r .number)
-      (λ z. let p = r .done z in let q = s .done (sym e ∙ z) in let same = one-board (p .1) (q .1) in
-      (p .2 ∙ ap (λ (b : Board). stretchOf b role) same ∙ sym (q .2), p .3 ∙ ap (λ (b : Board). startOrNone b role) same ∙ sym (q .3)))
+      (λ z. let p = r .done z in let q = s .done (sym e ∙ z) in let same = one-tables (p .1) (q .1) in
+      (p .2 ∙ ap (λ (t : Tables). stretchOf t role) same ∙ sym (q .2), p .3 ∙ ap (λ (t : Tables). startOrNone t role) same ∙ sym (q .3)))
       (λ z. let p = r .refused z in let q = s .refused (λ w. z (e ∙ w)) in (p .0 ∙ sym (q .0), p .1 ∙ sym (q .1)))
 
   -- the bytes, and where they lie

@@ -11,8 +11,6 @@ use lib.Seq.{length-take-le}
 use borrow.Rule.Slice.PartMut.{midOf, putMid}
 use Rattle.sets.specs.Sets.{bit, same?, LowestRole, NoRole}
 use Rattle.hierarchy.specs.Tables.{Tables, row, kindOf, kind}
-use Rattle.board.specs.Boards.{tablesOf}
-use Rattle.board.specs.declared.Board.{Board}
 use Rattle.boardfile.specs.Files.{from, edge?, edgeBytes, records, kindAt, trailer, bytesOf, fileOf}
 use Rattle.boardfile.specs.Parts.{Put, rowBytes, Room}
 use Rattle.boardfile.proofs.Ascending.{from-mono, from-short}
@@ -196,15 +194,15 @@ trailer-long : (e r : ℕ) → length (trailer e r) ≡ 6
 unfolding trailer
 trailer-long e r = refl
 
-module _ {b : Board} {roles edges : ℕ} {d : List ℕ} (room : Room b roles edges d) (p q : List ℕ)
-    (first : Put (from 64 0 (bit (b .live))) (midOf 0 (roles - 0) d) p)
-    (second : Put (edgeBytes (kindAt (tablesOf b)) 4096 0) (midOf roles (roles + edges - roles) (putMid 0 (roles - 0) d p)) q)
+module _ {t : Tables} {roles edges : ℕ} {d : List ℕ} (room : Room t roles edges d) (p q : List ℕ)
+    (first : Put (from 64 0 (bit (t .live))) (midOf 0 (roles - 0) d) p)
+    (second : Put (edgeBytes (kindAt t) 4096 0) (midOf roles (roles + edges - roles) (putMid 0 (roles - 0) d p)) q)
   where
     abbrev rs : List ℕ
-    rs = from 64 0 (bit (b .live))
+    rs = from 64 0 (bit (t .live))
 
     abbrev es : List ℕ
-    es = edgeBytes (kindAt (tablesOf b)) 4096 0
+    es = edgeBytes (kindAt t) 4096 0
 
     abbrev one : List ℕ
     one = putMid 0 (roles - 0) d p
@@ -230,17 +228,17 @@ module _ {b : Board} {roles edges : ℕ} {d : List ℕ} (room : Room b roles edg
 
     pub trailer-fits : (edges < 65536) × (roles + edges < 65536) × (6 ≤ length (midOf (roles + edges) (length two - (roles + edges)) two))
     trailer-fits =
-        let few : length rs ≤ 64 = from-short 64 0 (bit (b .live)) in
-        let some : length es ≤ 12288 = edge-few 4096 0 (kindAt (tablesOf b)) in
+        let few : length rs ≤ 64 = from-short 64 0 (bit (t .live)) in
+        let some : length es ≤ 12288 = edge-few 4096 0 (kindAt t) in
         let long = length-take-le (length two - (roles + edges)) (drop (roles + edges) two) (omega (arith, length-drop (roles + edges) two)) in
         (omega (arith, room .edge-bytes), omega (arith, room .role-bytes, room .edge-bytes), omega (arith, long, two-long, room .enough))
 
     pub file-put : (r : List ℕ) → Put (trailer edges (roles + edges)) (midOf (roles + edges) (length two - (roles + edges)) two) r
-        → Put (fileOf b) d (putMid (roles + edges) (length two - (roles + edges)) two r)
+        → Put (fileOf t) d (putMid (roles + edges) (length two - (roles + edges)) two r)
     unfolding fileOf bytesOf
     file-put r third =
         let k : ℕ = length two - (roles + edges) in
-        subst (λ (t : List ℕ). Put (rs ++ es ++ t) d (putMid (roles + edges) k two r)) (ap₂ trailer (room .edge-bytes) (ap₂ _+_ (room .role-bytes) (room .edge-bytes)))
+        subst (λ (last : List ℕ). Put (rs ++ es ++ last) d (putMid (roles + edges) k two r)) (ap₂ trailer (room .edge-bytes) (ap₂ _+_ (room .role-bytes) (room .edge-bytes)))
         (put-part (rs ++ es) (trailer edges (roles + edges)) d two r (roles + edges) k two-put (sym body) six (omega (arith, two-long, room .enough)) third)
       where
         six : length (trailer edges (roles + edges)) ≤ length two - (roles + edges)

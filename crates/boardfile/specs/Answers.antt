@@ -7,10 +7,10 @@ use Prim.Native.Nat.{ℕ, _+_, _-_, _<_}
 use lib.Dec.{eqb}
 use lib.ListN.{length, take, drop}
 use Rattle.sets.specs.Sets.{_isIn_}
-use Rattle.hierarchy.specs.Tables.{Shaped}
-use Rattle.hierarchy.specs.Words.{Derives, Scope, Climb, Loops, Managed, Sound}
+use Rattle.hierarchy.specs.Tables.{Tables, Shaped}
+use Rattle.hierarchy.specs.Words.{Derives, Scope, Climb, Loops, Managed}
 use Rattle.hierarchy.specs.First.{First}
-use Rattle.board.specs.Boards.{tablesOf, foundingBoard}
+use Rattle.board.specs.Boards.{tablesOf, foundingBoard, SoundBoard}
 use Rattle.board.specs.Commands.{Decided}
 use Rattle.board.specs.Questions.{Answered, Says, Counts, Manages}
 use Rattle.board.specs.declared.Board.{Board}
@@ -22,10 +22,10 @@ use Rattle.boardfile.specs.declared.commands.Place.the-variants.{Asked, 
 use Rattle.boardfile.specs.Files.{fileOf, stretchOf, startOf}
 use Rattle.boardfile.specs.Faults.{BadFrame, BadRecord}
 
--- f is the file of b, whose roles are 0 to 63
-pub record IsFile (f : List ℕ) (b : Board) : Type 0 where
-  pub shaped : Shaped (tablesOf b)
-  pub bytes : f ≡ fileOf b
+-- f is the file of the board of these tables, whose roles are 0 to 63
+pub record IsFile (f : List ℕ) (t : Tables) : Type 0 where
+  pub shaped : Shaped t
+  pub bytes : f ≡ fileOf t
 
 -- ---- reading: what has neither fault is the file of a board, and that board may have trouble of its own
 
@@ -33,15 +33,21 @@ abbrev pub refusals : List ℕ → List (ℕ × Type 0)
 refusals f =
     (10, BadFrame f)
     ∷ (11, BadRecord f)
-    ∷ (7, (b : Board) × IsFile f b × Loops (tablesOf b))
-    ∷ (9, (b : Board) × IsFile f b × (Managed (tablesOf b) → ⊥))
+    ∷ (7, (t : Tables) × IsFile f t × Loops t)
+    ∷ (9, (t : Tables) × IsFile f t × (Managed t → ⊥))
     ∷ []
 
 -- done gives the board, a refusal the founding board
 pub record ReadAnswer (f : List ℕ) (number : ℕ) (board : Board) : Type 0 where
   pub numbered : First (refusals f) number
-  pub done : number ≡ 0 → IsFile f board × Sound (tablesOf board)
+  pub done : number ≡ 0 → IsFile f (tablesOf board) × SoundBoard board
   pub refused : number ≢ 0 → board ≡ foundingBoard
+
+-- the same into a board that is lent: a refusal leaves what was there
+pub record ReadInto (f : List ℕ) (entry exit : Board) (number : ℕ) : Type 0 where
+  pub numbered : First (refusals f) number
+  pub done : number ≡ 0 → ReadAnswer f 0 exit
+  pub refused : number ≢ 0 → exit ≡ entry
 
 -- ---- a question about the board in a file, on the roles x and y: the reader's refusals, then 2, then 3
 
@@ -49,7 +55,7 @@ abbrev pub askedRefusals : List ℕ → ℕ → ℕ → List (ℕ × Type 0)
 askedRefusals f x y =
     refusals f
     ++ ((2, (63 < x) ⊎ (63 < y))
-    ∷ (3, (b : Board) × IsFile f b × ((x isIn b .live → ⊥) ⊎ (y isIn b .live → ⊥)))
+    ∷ (3, (t : Tables) × IsFile f t × ((x isIn t .live → ⊥) ⊎ (y isIn t .live → ⊥)))
     ∷ [])
 
 -- what is right of the board that the file is read as
@@ -72,21 +78,21 @@ StepsOnFile f r = Answered (askedRefusals f r r) (OfFile f (λ b. Climb (tablesO
 -- ---- the edge records of one senior, with the same refusals
 
 -- A senior without an edge has no place to name, and its start is 0.
-unfoldable pub startOrNone : Board → ℕ → ℕ
-startOrNone b role = cond (eqb (length (stretchOf b role)) 0) 0 (startOf b role)
+unfoldable pub startOrNone : Tables → ℕ → ℕ
+startOrNone t role = cond (eqb (length (stretchOf t role)) 0) 0 (startOf t role)
 
 -- where they begin in the file, and how many bytes they are
-abbrev pub Stands : ℕ → Board → ℕ × ℕ → Type 0
-Stands role b place = (place .0 ≡ startOrNone b role) × (place .1 ≡ length (stretchOf b role))
+abbrev pub Stands : ℕ → Tables → ℕ × ℕ → Type 0
+Stands role t place = (place .0 ≡ startOrNone t role) × (place .1 ≡ length (stretchOf t role))
 
 abbrev pub BoundsAnswer : List ℕ → ℕ → ℕ → ℕ → ℕ → Type 0
-BoundsAnswer f role number start len = Answered (askedRefusals f role role) (OfFile f (Stands role)) (0, 0) number (start, len)
+BoundsAnswer f role number start len = Answered (askedRefusals f role role) (OfFile f (λ b. Stands role (tablesOf b))) (0, 0) number (start, len)
 
 -- the records themselves, and where they begin; no bytes where the number, whatever it is, isn't 0
 pub record StretchAnswer (f : List ℕ) (role : ℕ) (part : List ℕ) (start : ℕ) : Type 0 where
   pub number : ℕ
   pub numbered : First (askedRefusals f role role) number
-  pub done : number ≡ 0 → (b : Board) × IsFile f b × (part ≡ stretchOf b role) × (start ≡ startOrNone b role)
+  pub done : number ≡ 0 → (t : Tables) × IsFile f t × (part ≡ stretchOf t role) × (start ≡ startOrNone t role)
   pub refused : number ≢ 0 → (part ≡ []) × (start ≡ 0)
 
 -- They are a part of the caller's own file: `part-at` and `file-at` are where the two lie in memory, a block and a place in it.
@@ -96,24 +102,24 @@ StretchOf f file-at role part part-at =
 
 -- ---- writing to a place of a buffer
 
-pub data NoRoom (b : Board) (entry : List ℕ) (at : ℕ) : Type 0 where
-  past-end : length entry < at → NoRoom b entry at
-  too-few : length entry - at < length (fileOf b) → NoRoom b entry at
+pub data NoRoom (t : Tables) (entry : List ℕ) (at : ℕ) : Type 0 where
+  past-end : length entry < at → NoRoom t entry at
+  too-few : length entry - at < length (fileOf t) → NoRoom t entry at
 
 -- the file stands there, and the bytes before it and after it stay
-abbrev pub Placed : Board → List ℕ → ℕ → List ℕ → ℕ → Type 0
-Placed b entry at exit len = (len ≡ length (fileOf b)) × (exit ≡ take at entry ++ fileOf b ++ drop (at + length (fileOf b)) entry)
+abbrev pub Placed : Tables → List ℕ → ℕ → List ℕ → ℕ → Type 0
+Placed t entry at exit len = (len ≡ length (fileOf t)) × (exit ≡ take at entry ++ fileOf t ++ drop (at + length (fileOf t)) entry)
 
 -- no byte is changed
 abbrev pub Unplaced : List ℕ → List ℕ → ℕ → Type 0
 Unplaced entry exit len = (len ≡ 0) × (exit ≡ entry)
 
 abbrev pub writeRefusals : Board → List ℕ → ℕ → List (ℕ × Type 0)
-writeRefusals b entry at = (1, (Sound (tablesOf b) → ⊥)) ∷ (12, NoRoom b entry at) ∷ []
+writeRefusals b entry at = (1, (SoundBoard b → ⊥)) ∷ (12, NoRoom (tablesOf b) entry at) ∷ []
 
 pub record WriteAnswer (b : Board) (entry : List ℕ) (at : ℕ) (exit : List ℕ) (number len : ℕ) : Type 0 where
   pub numbered : First (writeRefusals b entry at) number
-  pub done : number ≡ 0 → Placed b entry at exit len
+  pub done : number ≡ 0 → Placed (tablesOf b) entry at exit len
   pub refused : number ≢ 0 → Unplaced entry exit len
 
 -- ---- a command on the board in a file: read, decided, and written to the start of a buffer

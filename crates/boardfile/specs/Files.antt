@@ -1,4 +1,4 @@
--- Document 01, part "The board file and its trailer": the bytes of a board.
+-- Document 01, part "The board file and its trailer": the bytes of a board, which its tables settle.
 use mathlib.Core.Bool.{Bool, cond, not}
 use mathlib.Core.List.{List, [], _∷_, _++_}
 use Prim.Native.Nat.{ℕ, zero, suc, _+_, _*_, _/_, _%_}
@@ -6,8 +6,6 @@ use lib.Dec.{eqb}
 use lib.ListN.{length}
 use Rattle.sets.specs.Sets.{bit}
 use Rattle.hierarchy.specs.Tables.{Tables, kind}
-use Rattle.board.specs.Boards.{tablesOf}
-use Rattle.board.specs.declared.Board.{Board}
 
 -- the numbers of which f holds, ascending: n numbers are looked at, from k on
 unfoldable pub from : ℕ → ℕ → (ℕ → Bool) → List ℕ
@@ -42,12 +40,12 @@ bytesOf lives kinds =
     let edges = edgeBytes kinds 4096 0 in
     roles ++ edges ++ trailer (length edges) (length roles + length edges)
 
-unfoldable pub fileOf : Board → List ℕ
-fileOf b = bytesOf (bit (b .live)) (kindAt (tablesOf b))
+unfoldable pub fileOf : Tables → List ℕ
+fileOf t = bytesOf (bit (t .live)) (kindAt t)
 
 -- the part of it that has the edges of one senior, and where that begins: behind the role bytes and the edges of lower seniors
-unfoldable pub stretchOf : Board → ℕ → List ℕ
-stretchOf b role = edgeBytes (kindAt (tablesOf b)) 64 (role * 64)
+unfoldable pub stretchOf : Tables → ℕ → List ℕ
+stretchOf t role = edgeBytes (kindAt t) 64 (role * 64)
 
-unfoldable pub startOf : Board → ℕ → ℕ
-startOf b role = length (from 64 0 (bit (b .live))) + length (edgeBytes (kindAt (tablesOf b)) (role * 64) 0)
+unfoldable pub startOf : Tables → ℕ → ℕ
+startOf t role = length (from 64 0 (bit (t .live))) + length (edgeBytes (kindAt t) (role * 64) 0)

@@ -6,12 +6,10 @@ use mathlib.Core.List.{List, [], _∷_, _++_}
 use Prim.Native.Nat.{ℕ, _+_, _-_, _*_, _/_, _%_, _^_, _≤_, _<_}
 use lib.ListN.{length, take, drop}
 use Rattle.sets.specs.Sets.{bit, _isIn_}
-use Rattle.hierarchy.specs.Tables.{tables, IsTable, kindOf}
+use Rattle.hierarchy.specs.Tables.{Tables, tables, IsTable, kindOf}
 use Rattle.hierarchy.specs.First.{First}
-use Rattle.board.specs.Boards.{tablesOf, boardOf}
-use Rattle.board.specs.Looks.{Viewed}
+use Rattle.board.specs.Boards.{boardOf, SoundBoard}
 use Rattle.board.specs.Questions.{misnamed, Answered}
-use Rattle.board.specs.declared.Board.{Board}
 use Rattle.boardfile.specs.declared.frame.Framed.{Framed}
 use Rattle.boardfile.specs.declared.frame.Framed.the-variants.{Good, Bad}
 use Rattle.boardfile.specs.declared.reader.Roles.{Roles}
@@ -95,10 +93,10 @@ Entering f n m live false i a = BadRecord f
 
 -- ---- the parts together
 
--- a file opened: its refusal, or its board in parts, which is sound, with the views
-pub record Opening (f : List ℕ) (number live : ℕ) (i a down up : List ℕ) : Type 0 where
+-- a file opened: its refusal, or its board in parts, which is sound
+pub record Opening (f : List ℕ) (number live : ℕ) (i a derives derivers manager : List ℕ) : Type 0 where
   pub numbered : First (refusals f) number
-  pub done : number ≡ 0 → IsFile f (boardOf live i a) × Viewed (boardOf live i a) down up
+  pub done : number ≡ 0 → IsFile f (tables live i a) × SoundBoard (boardOf live i a derives derivers manager)
 
 -- ---- what the parts of the writer do
 
@@ -115,18 +113,18 @@ unfoldable pub rowBytes : ℕ → ℕ → ℕ → List ℕ
 rowBytes x i a = edgeBytes (λ e. kindOf (bit i (e % 64)) (bit a (e % 64))) 64 (x * 64)
 
 -- the sizes of a file's parts, and room for it
-pub record Room (b : Board) (roles edges : ℕ) (out : List ℕ) : Type 0 where
-  pub role-bytes : roles ≡ length (from 64 0 (bit (b .live)))
-  pub edge-bytes : edges ≡ length (edgeBytes (kindAt (tablesOf b)) 4096 0)
+pub record Room (t : Tables) (roles edges : ℕ) (out : List ℕ) : Type 0 where
+  pub role-bytes : roles ≡ length (from 64 0 (bit (t .live)))
+  pub edge-bytes : edges ≡ length (edgeBytes (kindAt t) 4096 0)
   pub enough : roles + edges + 6 ≤ length out
 
 -- the file of any board, put from a place on, where there is room
-pub record PutAnswer (b : Board) (entry : List ℕ) (at : ℕ) (exit : List ℕ) (number len : ℕ) : Type 0 where
-  pub numbered : First ((12, NoRoom b entry at) ∷ []) number
-  pub done : number ≡ 0 → Placed b entry at exit len
+pub record PutAnswer (t : Tables) (entry : List ℕ) (at : ℕ) (exit : List ℕ) (number len : ℕ) : Type 0 where
+  pub numbered : First ((12, NoRoom t entry at) ∷ []) number
+  pub done : number ≡ 0 → Placed t entry at exit len
   pub refused : number ≢ 0 → Unplaced entry exit len
 
 -- ---- what the stretch finds in the tables of a board
 
-abbrev pub PlaceAnswer : Board → ℕ → ℕ → ℕ → ℕ → Type 0
-PlaceAnswer b role number start len = Answered (misnamed (b .live) role role) (Stands role b) (0, 0) number (start, len)
+abbrev pub PlaceAnswer : Tables → ℕ → ℕ → ℕ → ℕ → Type 0
+PlaceAnswer t role number start len = Answered (misnamed (t .live) role role) (Stands role t) (0, 0) number (start, len)

@@ -24,9 +24,17 @@ pub fn command(file: &[u8], c: Command, out: &mut [u8]) -> Commanded
 {
     let mut i = [0u64; 64];
     let mut a = [0u64; 64];
-    let mut down = [0u64; 64];
-    let mut up = [0u64; 64];
-    let f = open(file, &mut i, &mut a, &mut down, &mut up);
+    let mut derives = [0u64; 64];
+    let mut derivers = [0u64; 64];
+    let mut manager = [0u8; 64];
+    let f = open(
+        file,
+        &mut i,
+        &mut a,
+        &mut derives,
+        &mut derivers,
+        &mut manager,
+    );
     if f.number != 0 {
         return Commanded {
             place: Place::File,
@@ -34,16 +42,24 @@ pub fn command(file: &[u8], c: Command, out: &mut [u8]) -> Commanded
             len: 0,
         };
     }
-    let o = decide(f.live, &i, &a, c, &down, &up);
-    if o.number != 0 {
+    let mut live = f.live;
+    let number = decide(
+        &mut live,
+        &mut i,
+        &mut a,
+        &mut derives,
+        &mut derivers,
+        &mut manager,
+        c,
+    );
+    if number != 0 {
         return Commanded {
             place: Place::Asked,
-            number: o.number,
+            number,
             len: 0,
         };
     }
-    let next = o.board;
-    let w = put(next.live, &next.i, &next.a, out, 0);
+    let w = put(live, &i, &a, out, 0);
     if w.number != 0 {
         return Commanded {
             place: Place::Writing,

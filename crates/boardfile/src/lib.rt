@@ -4,10 +4,11 @@
 // junior; a trailer of six bytes: how far before the trailer the edge records begin (0 where there are none), how far before it the
 // role bytes begin, each in two bytes, the low one first, and HH.
 //
-// Each function on a file opens it first, which works out the views of its board; what follows goes on with these, so that a board is
-// weighed once.
+// Each function on a file opens it first, which works out what its board keeps; what follows reads it there, so that a board is weighed
+// once.
 pub mod commands;
 mod frame;
+pub mod lent;
 mod opening;
 pub mod questions;
 mod reader;
@@ -16,10 +17,9 @@ mod writer;
 
 ghost use Rattle.boardfile.specs.Answers.{ReadAnswer, WriteAnswer};
 use board::Board;
-use board::checks::sound;
+use lent::write_of;
 use opening::open;
 pub use writer::edge_count;
-use writer::put;
 
 pub struct Reading {
     pub number: u8,
@@ -32,16 +32,31 @@ pub fn read(file: &[u8]) -> Reading
 {
     let mut i = [0u64; 64];
     let mut a = [0u64; 64];
-    let mut down = [0u64; 64];
-    let mut up = [0u64; 64];
-    let f = open(file, &mut i, &mut a, &mut down, &mut up);
+    let mut derives = [0u64; 64];
+    let mut derivers = [0u64; 64];
+    let mut manager = [0u8; 64];
+    let f = open(
+        file,
+        &mut i,
+        &mut a,
+        &mut derives,
+        &mut derivers,
+        &mut manager,
+    );
     if f.number != 0 {
         return Reading {
             number: f.number,
             board: Board::founding(),
         };
     }
-    let board = Board { live: f.live, i, a };
+    let board = Board {
+        live: f.live,
+        i,
+        a,
+        derives,
+        derivers,
+        manager,
+    };
     Reading { number: 0, board }
 }
 
@@ -54,8 +69,14 @@ pub struct Written {
 pub fn write(b: Board, out: &mut [u8], at: usize) -> Written
     ensures { λ r. ⌜ WriteAnswer b (now (out .entry)) at (now (out .exit)) (r .number) (r .len) ⌝ }
 {
-    if !sound(b) {
-        return Written { number: 1, len: 0 };
-    }
-    put(b.live, &b.i, &b.a, out, at)
+    write_of(
+        b.live,
+        &b.i,
+        &b.a,
+        &b.derives,
+        &b.derivers,
+        &b.manager,
+        out,
+        at,
+    )
 }

@@ -1,4 +1,4 @@
-// A file opened: its board in parts, with the views.
+// A file opened: its board in parts, with all that it keeps.
 ghost use mathlib.Core.Path.{_≡_};
 ghost use Rattle.boardfile.specs.Parts.{Opening};
 use crate::frame::Framed;
@@ -6,11 +6,9 @@ use crate::frame::frame;
 use crate::reader::Roles;
 use crate::reader::edges;
 use crate::reader::listed;
-use hierarchy::scopes::managed;
-use hierarchy::views::fill_down;
-use hierarchy::views::fill_up;
+use hierarchy::working::work_out;
 
-// The number, and the live roles of the board; its tables and views go to what is lent.
+// The number, and the live roles of the board; its tables and what it keeps go to what is lent.
 pub(crate) struct Opened {
     pub number: u8,
     pub live: u64,
@@ -27,10 +25,11 @@ pub(crate) fn open(
     file: &[u8],
     i: &mut [u64; 64],
     a: &mut [u64; 64],
-    down: &mut [u64; 64],
-    up: &mut [u64; 64],
+    derives: &mut [u64; 64],
+    derivers: &mut [u64; 64],
+    manager: &mut [u8; 64],
 ) -> Opened
-    ensures { λ r. ⌜ Opening (now (file .entry)) (r .number) (r .live) (now (i .exit)) (now (a .exit)) (now (down .exit)) (now (up .exit)) ⌝ }
+    ensures { λ r. ⌜ Opening (now (file .entry)) (r .number) (r .live) (now (i .exit)) (now (a .exit)) (now (derives .exit)) (now (derivers .exit)) (now (manager .exit)) ⌝ }
 {
     *i = [0; 64];
     *a = [0; 64];
@@ -47,12 +46,9 @@ pub(crate) fn open(
     if !edges(file, roles, records, live, i, a) {
         return refused(11);
     }
-    if fill_down(live, i, a, down) != live {
-        return refused(7);
-    }
-    fill_up(live, down, up);
-    if !managed(live, down, up) {
-        return refused(9);
+    let trouble = work_out(live, i, a, derives, derivers, manager);
+    if trouble != 0 {
+        return refused(trouble);
     }
     Opened { number: 0, live }
 }

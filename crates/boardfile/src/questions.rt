@@ -18,9 +18,17 @@ pub fn check(file: &[u8]) -> u8
 {
     let mut i = [0u64; 64];
     let mut a = [0u64; 64];
-    let mut down = [0u64; 64];
-    let mut up = [0u64; 64];
-    open(file, &mut i, &mut a, &mut down, &mut up).number
+    let mut derives = [0u64; 64];
+    let mut derivers = [0u64; 64];
+    let mut manager = [0u8; 64];
+    open(
+        file,
+        &mut i,
+        &mut a,
+        &mut derives,
+        &mut derivers,
+        &mut manager,
+    ).number
 }
 
 // Does x derive y.
@@ -29,16 +37,24 @@ pub fn derives(file: &[u8], x: u32, y: u32) -> Derived
 {
     let mut i = [0u64; 64];
     let mut a = [0u64; 64];
-    let mut down = [0u64; 64];
-    let mut up = [0u64; 64];
-    let f = open(file, &mut i, &mut a, &mut down, &mut up);
+    let mut derives = [0u64; 64];
+    let mut derivers = [0u64; 64];
+    let mut manager = [0u8; 64];
+    let f = open(
+        file,
+        &mut i,
+        &mut a,
+        &mut derives,
+        &mut derivers,
+        &mut manager,
+    );
     if f.number != 0 {
         return Derived {
             number: f.number,
             yes: false,
         };
     }
-    derives_by(f.live, &down, x, y)
+    derives_by(f.live, &derives, x, y)
 }
 
 // Is r in the scope of a, and how many are.
@@ -47,9 +63,17 @@ pub fn scope(file: &[u8], a: u32, r: u32) -> Scoped
 {
     let mut by_i = [0u64; 64];
     let mut by_a = [0u64; 64];
-    let mut down = [0u64; 64];
-    let mut up = [0u64; 64];
-    let f = open(file, &mut by_i, &mut by_a, &mut down, &mut up);
+    let mut derives = [0u64; 64];
+    let mut derivers = [0u64; 64];
+    let mut manager = [0u8; 64];
+    let f = open(
+        file,
+        &mut by_i,
+        &mut by_a,
+        &mut derives,
+        &mut derivers,
+        &mut manager,
+    );
     if f.number != 0 {
         return Scoped {
             number: f.number,
@@ -57,7 +81,7 @@ pub fn scope(file: &[u8], a: u32, r: u32) -> Scoped
             count: 0,
         };
     }
-    scope_by(f.live, &down, &up, a, r)
+    scope_by(f.live, &derives, &derivers, a, r)
 }
 
 // The line manager of r.
@@ -66,16 +90,24 @@ pub fn line_manager(file: &[u8], r: u32) -> Managed
 {
     let mut i = [0u64; 64];
     let mut a = [0u64; 64];
-    let mut down = [0u64; 64];
-    let mut up = [0u64; 64];
-    let f = open(file, &mut i, &mut a, &mut down, &mut up);
+    let mut derives = [0u64; 64];
+    let mut derivers = [0u64; 64];
+    let mut manager = [0u8; 64];
+    let f = open(
+        file,
+        &mut i,
+        &mut a,
+        &mut derives,
+        &mut derivers,
+        &mut manager,
+    );
     if f.number != 0 {
         return Managed {
             number: f.number,
             manager: Manager::Nobody,
         };
     }
-    line_manager_by(f.live, &down, &up, r)
+    line_manager_by(f.live, &manager, r)
 }
 
 // The steps from r to role 0 by line managers.
@@ -84,14 +116,22 @@ pub fn steps(file: &[u8], r: u32) -> Stepped
 {
     let mut i = [0u64; 64];
     let mut a = [0u64; 64];
-    let mut down = [0u64; 64];
-    let mut up = [0u64; 64];
-    let f = open(file, &mut i, &mut a, &mut down, &mut up);
+    let mut derives = [0u64; 64];
+    let mut derivers = [0u64; 64];
+    let mut manager = [0u8; 64];
+    let f = open(
+        file,
+        &mut i,
+        &mut a,
+        &mut derives,
+        &mut derivers,
+        &mut manager,
+    );
     if f.number != 0 {
         return Stepped {
             number: f.number,
             steps: 0,
         };
     }
-    steps_by(f.live, &down, &up, r)
+    steps_by(f.live, &manager, r)
 }

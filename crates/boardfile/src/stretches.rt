@@ -2,8 +2,8 @@
 // board, so that the file is read once.
 ghost use mathlib.Core.Path.{_≡_};
 ghost use Prim.Native.Nat.{_≤_};
+ghost use Rattle.hierarchy.specs.Tables.{tables};
 ghost use Rattle.hierarchy.specs.First.{First};
-ghost use Rattle.board.specs.Boards.{boardOf};
 ghost use Rattle.boardfile.specs.Files.{startOf};
 ghost use Rattle.boardfile.specs.Answers.{askedRefusals, BoundsAnswer, StretchOf};
 ghost use Rattle.boardfile.specs.Parts.{PlaceAnswer};
@@ -32,14 +32,14 @@ fn nothing(number: u8) -> Span
 // Where the records of this senior and of those above it begin: past the role bytes and the records of the seniors below.
 fn start_of<'t>(live: u64, i: &'t [u64; 64], a: &'t [u64; 64], senior: usize) -> usize
     requires { ⌜ senior ≤ 64 ⌝ }
-    ensures { λ r. ⌜ r ≡ startOf (boardOf live (now (i .entry)) (now (a .entry))) senior ⌝ }
+    ensures { λ r. ⌜ r ≡ startOf (tables live (now (i .entry)) (now (a .entry))) senior ⌝ }
 {
     size(live) as usize + 3 * edges_below(i, a, senior)
 }
 
 // The place of the records of this senior in the file of a board.
 fn place<'t>(live: u64, i: &'t [u64; 64], a: &'t [u64; 64], role: u32) -> Span
-    ensures { λ r. ⌜ PlaceAnswer (boardOf live (now (i .entry)) (now (a .entry))) role (r .number) (r .start) (r .len) ⌝ }
+    ensures { λ r. ⌜ PlaceAnswer (tables live (now (i .entry)) (now (a .entry))) role (r .number) (r .start) (r .len) ⌝ }
 {
     if 63 < role {
         return nothing(2);
@@ -66,9 +66,17 @@ pub fn bounds(file: &[u8], role: u32) -> Span
 {
     let mut i = [0u64; 64];
     let mut a = [0u64; 64];
-    let mut down = [0u64; 64];
-    let mut up = [0u64; 64];
-    let f = open(file, &mut i, &mut a, &mut down, &mut up);
+    let mut derives = [0u64; 64];
+    let mut derivers = [0u64; 64];
+    let mut manager = [0u8; 64];
+    let f = open(
+        file,
+        &mut i,
+        &mut a,
+        &mut derives,
+        &mut derivers,
+        &mut manager,
+    );
     if f.number != 0 {
         return nothing(f.number);
     }

@@ -3,8 +3,8 @@ ghost use mathlib.Core.Path.{_≡_};
 ghost use Prim.Native.Nat.{_*_, _≤_, _<_};
 ghost use lib.ListN.{length};
 ghost use Rattle.sets.specs.Sets.{bit};
-ghost use Rattle.hierarchy.specs.Tables.{kindOf};
-ghost use Rattle.board.specs.Boards.{tablesOf, boardOf};
+ghost use Rattle.hierarchy.specs.Tables.{tables, kindOf};
+ghost use Rattle.board.specs.Boards.{tablesOf};
 ghost use Rattle.boardfile.specs.Files.{from, edge?, edgeBytes, kindAt, trailer, fileOf};
 ghost use Rattle.boardfile.specs.Parts.{kindsIn, rowBytes, Put, Room, PutAnswer};
 use crate::Written;
@@ -126,8 +126,8 @@ fn put_file<'t>(
     edges: usize,
     out: &mut [u8],
 )
-    requires { ⌜ Room (boardOf live (now i) (now a)) roles edges (now out) ⌝ }
-    ensures { λ _. ⌜ Put (fileOf (boardOf live (now (i .entry)) (now (a .entry)))) (now (out .entry)) (now (out .exit)) ⌝ }
+    requires { ⌜ Room (tables live (now i) (now a)) roles edges (now out) ⌝ }
+    ensures { λ _. ⌜ Put (fileOf (tables live (now (i .entry)) (now (a .entry)))) (now (out .entry)) (now (out .exit)) ⌝ }
 {
     let body = roles + edges;
     put_roles(live, &mut out[0..roles]);
@@ -143,7 +143,7 @@ pub(crate) fn put<'t>(
     out: &mut [u8],
     at: usize,
 ) -> Written
-    ensures { λ r. ⌜ PutAnswer (boardOf live (now (i .entry)) (now (a .entry))) (now (out .entry)) at (now (out .exit)) (r .number) (r .len) ⌝ }
+    ensures { λ r. ⌜ PutAnswer (tables live (now (i .entry)) (now (a .entry))) (now (out .entry)) at (now (out .exit)) (r .number) (r .len) ⌝ }
 {
     let roles = size(live) as usize;
     let edges = 3 * edges_below(i, a, 64);

@@ -1,9 +1,10 @@
 // Lists the board whose file stands on standard input: how many roles and edges it has, then for each live role its number, its line
-// manager or '-', and its steps to role 0. Of a file that is refused it says only so, with the number.
+// manager or '-', and its steps to role 0. Of a file that is refused it says only so, with the number. Reading the file works all of this
+// out once; the lines are read off the board.
 use board::Board;
+use board::kept::line_manager;
+use board::kept::steps;
 use board::questions::Manager;
-use board::questions::line_manager;
-use board::questions::steps;
 use libc::STDIN_FILENO;
 use libc::STDOUT_FILENO;
 use sets::Pick;
@@ -20,28 +21,27 @@ fn number(n: u64) {
 }
 
 // The line of one role.
-fn list(b: Board, role: u32) {
+fn list(manager: &[u8; 64], role: u32) {
     number(role as u64);
     say(b" ");
-    let answer = line_manager(b, role);
-    let manager = answer.manager;
-    match manager {
-        Manager::Role(m) => number(m as u64),
+    let m = line_manager(manager, role);
+    match m {
+        Manager::Role(x) => number(x as u64),
         Manager::Nobody => say(b"-"),
     }
     say(b" ");
-    number(steps(b, role).steps as u64);
+    number(steps(manager, role) as u64);
     say(b"\n");
 }
 
 // The lines of all roles, ascending.
-fn list_all(b: Board) {
-    let mut rest = b.live;
+fn list_all(live: u64, manager: &[u8; 64]) {
+    let mut rest = live;
     loop {
         let Pick::Role(role) = lowest(rest) else {
             return;
         };
-        list(b, role as u32);
+        list(manager, role as u32);
         rest = without(rest, role);
     }
 }
@@ -63,5 +63,5 @@ fn main() {
     say(b" edges ");
     number(boardfile::edge_count(board) as u64);
     say(b"\n");
-    list_all(board);
+    list_all(board.live, &board.manager);
 }

@@ -2,7 +2,7 @@
 use mathlib.Core.Path.{_≡_, refl, sym, subst}
 use mathlib.Core.Logic.{_⊎_, inl, inr, ⊎-elim, _↔_, Iff·rfl}
 use mathlib.Core.Bool.{Bool, true, false, cond, false≢true}
-use mathlib.Core.List.{List, _∷_}
+use mathlib.Core.List.{List, [], _∷_}
 use Prim.Native.Nat.{ℕ, _^_, _≤_, _<_}
 use native.Mathlib.Omega.{arith}
 use lib.Dec.{leb, ltb}
@@ -10,18 +10,18 @@ use borrow.Author.Tests.{leb-true, le-leb}
 use Rattle.sets.specs.Sets.{bit}
 use Rattle.sets.proofs.Bools.{or-cases, lt-or-ge, not-so, false-no}
 use Rattle.sets.proofs.Laws.{bit-lt}
-use Rattle.hierarchy.specs.Tables.{Shaped}
-use Rattle.hierarchy.specs.Words.{Scope}
+use Rattle.hierarchy.specs.Tables.{Tables, Shaped}
+use Rattle.hierarchy.specs.Words.{Scope, Sound}
 use Rattle.hierarchy.specs.First.{First}
 use Rattle.hierarchy.proofs.FirstLaws.{pass, hit, none}
 use Rattle.hierarchy.proofs.Checks.{all-is, any-is, and-is, or-is, if-is, not-is, eq-is, lt-is}
 use Rattle.hierarchy.proofs.Decide.{scope-is, admin-is, loops-is, managed-is, sound-is, sound-dec}
-use Rattle.board.specs.Boards.{tablesOf}
+use Rattle.board.specs.Boards.{tablesOf, KeepsRight, SoundBoard}
 use Rattle.board.specs.Effects.{after}
-use Rattle.board.specs.Commands.{Malformed, Missing, Standing, NoEdge, InScope, Outside, asSenior, asJunior, needed, scoped, strictly, edgeKind, afterwards, refusals}
+use Rattle.board.specs.Commands.{Malformed, Missing, Standing, NoEdge, InScope, Outside, asSenior, asJunior, needed, scoped, strictly, edgeKind, afterwards, onTables, refusals}
 use Rattle.board.specs.Commands.{Malformed.no-code, Malformed.no-actor, Malformed.no-role, Malformed.no-junior, Malformed.no-kind, Standing.role, Standing.edge}
-use Rattle.board.proofs.Rules.{stable}
-use Rattle.board.proofs.Kept.{shaped-after}
+use Rattle.board.proofs.Rules.{stable, first-alike}
+use Rattle.board.proofs.SoundAfter.{shaped-after}
 use Rattle.board.specs.declared.Board.{Board}
 use Rattle.board.specs.declared.Command.{Command}
 use Rattle.examples.specs.Answer.{malformed?, missing?, standing?, noEdge?, inScope?, outside?, first?, afterwards?, answer?, Fits, fits?}
@@ -63,24 +63,24 @@ malformed-is c =
       ]),
     )
 
-standing-is : (b : Board) (c : Command) → (standing? b c ≡ true) ↔ Standing b c
+standing-is : (t : Tables) (c : Command) → (standing? t c ≡ true) ↔ Standing t c
 unfolding standing?
-standing-is b c =
-    let old = and-is (eq-is (c .code) 1) (λ _. is (bit (b .live) (c .role))) in
-    let i = or-is old (and-is (eq-is (c .code) 3) (λ _. not-is (eq-is (edgeKind b c) 0))) in (
+standing-is t c =
+    let old = and-is (eq-is (c .code) 1) (λ _. is (bit (t .live) (c .role))) in
+    let i = or-is old (and-is (eq-is (c .code) 3) (λ _. not-is (eq-is (edgeKind t c) 0))) in (
       λ e. ⊎-elim (λ h. role (h .0) (h .1)) (λ h. edge (h .0) (h .1)) (i .0 e),
       λ s. i .1 (elim s [ role e h ↦ inl (e, h) | edge e h ↦ inr (e, h) ]),
     )
 
-noEdge-is : (b : Board) (c : Command) → (noEdge? b c ≡ true) ↔ NoEdge b c
+noEdge-is : (t : Tables) (c : Command) → (noEdge? t c ≡ true) ↔ NoEdge t c
 unfolding noEdge?
-noEdge-is b c =
-    let i = and-is (le-is 4 (c .code)) (λ _. eq-is (edgeKind b c) 0) in
+noEdge-is t c =
+    let i = and-is (le-is 4 (c .code)) (λ _. eq-is (edgeKind t c) 0) in
     (λ e. let h = i .0 e in record { names = h .0; none = h .1 }, λ n. i .1 (n .names, n .none))
 
-outside-is : (b : Board) (c : Command) → Shaped (tablesOf b) → (outside? b c ≡ true) ↔ Outside b c
+outside-is : (t : Tables) (c : Command) → Shaped t → (outside? t c ≡ true) ↔ Outside t c
 unfolding outside?
-outside-is b c s =
+outside-is t c s =
     let i = and-is (eq-is (c .code) 1) (λ _. not-is (admin-is s (c .actor) (c .role))) in
     (λ e. let h = i .0 e in record { adds = h .0; outside = h .1 }, λ o. i .1 (o .adds, o .outside))
 
@@ -125,16 +125,16 @@ module _ {c : Command} (fits : Fits c) (well : Malformed c → ⊥) (x : ℕ) wh
       let gone = and-is (eq-is (c .code) 2) (λ _. eq-is x (c .role)) in
       ⊎-elim (λ h. junior-lt (h .1)) (λ h. role-lt (h .1)) (or-is juniors gone .0 e)
 
-module _ (b : Board) {c : Command} (fits : Fits c) (well : Malformed c → ⊥) where
-  missing-is : (missing? b c ≡ true) ↔ Missing b c
+module _ (t : Tables) {c : Command} (fits : Fits c) (well : Malformed c → ⊥) where
+  missing-is : (missing? t c ≡ true) ↔ Missing t c
   unfolding missing?
   missing-is =
-      let i = any-is 64 (λ x. and-is (is (needed c x)) (λ _. not-is (is (bit (b .live) x)))) (λ x h. needed-lt fits well x (h .0)) in (
-        λ e. let h = i .0 e in record { who = h .0; is-needed = h .1 .0; absent = not-so (bit (b .live) (h .0)) (h .1 .1) },
+      let i = any-is 64 (λ x. and-is (is (needed c x)) (λ _. not-is (is (bit (t .live) x)))) (λ x h. needed-lt fits well x (h .0)) in (
+        λ e. let h = i .0 e in record { who = h .0; is-needed = h .1 .0; absent = not-so (bit (t .live) (h .0)) (h .1 .1) },
         λ m. i .1 (m .who, (m .is-needed, false-no (m .absent))),
       )
 
-  inScope-is : Shaped (tablesOf b) → (inScope? b c ≡ true) ↔ InScope (Scope (tablesOf b)) c
+  inScope-is : Shaped t → (inScope? t c ≡ true) ↔ InScope (Scope t) c
   unfolding inScope?
   inScope-is s =
       let i = all-is 64 (λ x. and-is (if-is (is (scoped c x)) (scope-is s (c .actor) x)) (λ _. if-is (is (strictly c x)) (admin-is s (c .actor) x))) in (
@@ -149,21 +149,26 @@ tried : (k n : ℕ) (rest : List (ℕ × Type 0)) {X : Type 0} {p : Bool} → (p
 tried k n rest {X} {p = true} d f = hit k X rest (d .0 refl)
 tried k n rest {X} {p = false} d f = let fails : X → ⊥ = λ x. false≢true (d .1 x) in pass k X rest n fails (f fails)
 
-afterwards-is : (b : Board) (c : Command) → Shaped (tablesOf b) → First (afterwards b c) (first? (afterwards? b c))
+afterwards-is : (t : Tables) (c : Command) → Shaped t → First (afterwards t c) (first? (afterwards? t c))
 unfolding first?
-afterwards-is b c s =
+afterwards-is t c s =
     tried 7 _ _ (loops-is s) (λ _.
-    tried 8 _ _ (outside-is b c s) (λ _.
+    tried 8 _ _ (outside-is t c s) (λ _.
     tried 9 _ _ (not-is (managed-is s)) (λ _. none)))
 
--- The computed number of a command is that of its first refusal in document 01's table.
-pub answer-is : (b : Board) (c : Command) → Fits c → First (refusals b c) (answer? b c)
+-- The computed number of a command is that of its first refusal in document 01's table, on tables;
+pub answer-is : (t : Tables) (c : Command) → Fits c → First ((1, (Sound t → ⊥)) ∷ onTables t c) (answer? t c)
 unfolding answer? first?
-answer-is b c fits =
-    tried 1 _ _ (not-is (sound-is (tablesOf b))) (λ sound. let s = stable (sound-dec (tablesOf b)) sound .shaped in
+answer-is t c fits =
+    tried 1 _ _ (not-is (sound-is t)) (λ sound. let s = stable (sound-dec t) sound .shaped in
     tried 2 _ _ (malformed-is c) (λ well.
-    tried 3 _ _ (missing-is b fits well) (λ _.
-    tried 4 _ _ (standing-is b c) (λ _.
-    tried 5 _ _ (noEdge-is b c) (λ _.
-    tried 6 _ _ (not-is (inScope-is b fits well s)) (λ _.
-    subst (λ d. First (afterwards (after b c) c) (first? (afterwards? d c))) (sym (left-is b c s)) (afterwards-is (after b c) c (shaped-after b c))))))))
+    tried 3 _ _ (missing-is t fits well) (λ _.
+    tried 4 _ _ (standing-is t c) (λ _.
+    tried 5 _ _ (noEdge-is t c) (λ _.
+    tried 6 _ _ (not-is (inScope-is t fits well s)) (λ _.
+    subst (λ d. First (afterwards (after t c) c) (first? (afterwards? d c))) (sym (left-is t c s)) (afterwards-is (after t c) c (shaped-after t c))))))))
+
+-- and so it is on a board that keeps right values.
+pub on-board : (b : Board) (c : Command) (n : ℕ) → KeepsRight b → First ((1, (Sound (tablesOf b) → ⊥)) ∷ onTables (tablesOf b) c) n → First (refusals b c) n
+on-board b c n right = first-alike ((1, (Sound (tablesOf b) → ⊥)) ∷ []) ((1, (SoundBoard b → ⊥)) ∷ []) (onTables (tablesOf b) c) (onTables (tablesOf b) c) n
+    (refl, (λ h s. h (s .sound), λ h s. h (record { sound = s; right = right })), tt) (λ _ f. f)

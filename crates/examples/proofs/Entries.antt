@@ -9,20 +9,18 @@ use borrow.Author.Tests.{eqb-true}
 use Rattle.sets.proofs.Bools.{and-left, and-right, false-no}
 use Rattle.sets.proofs.Laws.{bit-lt}
 use Rattle.hierarchy.specs.Tables.{Tables, Shaped}
-use Rattle.hierarchy.specs.Words.{Climb}
+use Rattle.hierarchy.specs.Words.{Sound, Climb}
 use Rattle.hierarchy.specs.Words.{Climb.top, Climb.up}
 use Rattle.hierarchy.specs.First.{First}
 use Rattle.hierarchy.proofs.Checks.{any-is, and-is, not-is, beq-same}
 use Rattle.hierarchy.proofs.Decide.{derives-is, scope-set, admin-is, manager-is, loops-is, sound-is, shaped-is}
 use Rattle.hierarchy.proofs.Admin.{admin-live}
-use Rattle.board.specs.Boards.{tablesOf}
-use Rattle.board.specs.Commands.{refusals}
-use Rattle.board.proofs.Kept.{shaped-after}
-use Rattle.board.specs.declared.Board.{Board}
+use Rattle.board.specs.Commands.{onTables}
+use Rattle.board.proofs.SoundAfter.{shaped-after}
 use Rattle.examples.specs.Answer.{left, answer?, fits?}
-use Rattle.examples.specs.Table.{Stage, boardOf, Fact, Holds, reached, begins?, climbs?, rows?, holds?, right?, every?}
+use Rattle.examples.specs.Table.{Stage, tablesAt, Fact, Holds, reached, begins?, climbs?, rows?, holds?, right?, every?}
 use Rattle.examples.specs.Table.{Stage.on, Stage._then_, Fact.sound, Fact.derives, Fact.scope, Fact.manager, Fact.steps, Fact.alone, Fact.loops, Fact.gives, Fact.same}
-use Rattle.examples.proofs.Answering.{fits-is, answer-is}
+use Rattle.examples.proofs.Answering.{fits-is, answer-is, on-board}
 use Rattle.examples.proofs.Leaving.{left-is}
 
 -- ---- facts
@@ -41,18 +39,18 @@ rows-same [] (y ∷ ys) e = absurd (false≢true e)
 rows-same (x ∷ xs) [] e = absurd (false≢true e)
 rows-same (x ∷ xs) (y ∷ ys) e = ap₂ _∷_ (eqb-true x y (and-left (eqb x y) (rows? xs ys) e)) (rows-same xs ys (and-right (eqb x y) (rows? xs ys) e))
 
-board-same : (b d : Board) → (eqb (b .live) (d .live) && (rows? (b .i) (d .i) && rows? (b .a) (d .a))) ≡ true → b ≡ d
-board-same b d e =
+tables-same : (b d : Tables) → (eqb (b .live) (d .live) && (rows? (b .i) (d .i) && rows? (b .a) (d .a))) ≡ true → b ≡ d
+tables-same b d e =
     let live = eqb-true (b .live) (d .live) (and-left (eqb (b .live) (d .live)) _ e) in
     let rest = and-right (eqb (b .live) (d .live)) _ e in
     let i = rows-same (b .i) (d .i) (and-left (rows? (b .i) (d .i)) _ rest) in
     let a = rows-same (b .a) (d .a) (and-right (rows? (b .i) (d .i)) _ rest) in
     λ k. record { live = live k; i = i k; a = a k }
 
-module _ (b : Board) (s : Shaped (tablesOf b)) where
-  fact-holds : (f : Fact) → holds? b f ≡ true → Holds b f
+module _ (t : Tables) (s : Shaped t) where
+  fact-holds : (f : Fact) → holds? t f ≡ true → Holds t f
   unfolding holds?
-  fact-holds sound e = sound-is (tablesOf b) .0 e
+  fact-holds sound e = sound-is t .0 e
   fact-holds (derives x y true) e = derives-is s x y .0 (beq-same _ _ e)
   fact-holds (derives x y false) e = λ d. false-no (beq-same _ _ e) (derives-is s x y .1 d)
   fact-holds (scope a set) e = scope-set s a set (eqb-true _ _ e)
@@ -60,36 +58,37 @@ module _ (b : Board) (s : Shaped (tablesOf b)) where
   fact-holds (steps r n) e = climbs-holds s n r e
   fact-holds (alone r) e = λ a d. not-is (any-is 64 (λ x. admin-is s x r) (λ x d. bit-lt 64 (s .live-fits) (admin-live d))) .0 e (a, d)
   fact-holds loops e = loops-is s .0 e
-  fact-holds (gives c n) e =
-      subst (First (refusals b c)) (eqb-true (answer? b c) n (and-right (fits? c) _ e)) (answer-is b c (fits-is c .0 (and-left (fits? c) _ e)))
-  fact-holds (same d) e = board-same b d e
+  fact-holds (gives c n) e = λ b q right. on-board b c n right
+      (subst (λ (t : Tables). First ((1, (Sound t → ⊥)) ∷ onTables t c) n) (sym q)
+      (subst (First ((1, (Sound t → ⊥)) ∷ onTables t c)) (eqb-true (answer? t c) n (and-right (fits? c) _ e)) (answer-is t c (fits-is c .0 (and-left (fits? c) _ e)))))
+  fact-holds (same d) e = tables-same t d e
 
 -- ---- stages and entries
 
-stage-shaped : (s : Stage) → begins? s ≡ true → Shaped (tablesOf (boardOf s))
+stage-shaped : (s : Stage) → begins? s ≡ true → Shaped (tablesAt s)
 unfolding begins?
-stage-shaped (on b) e = shaped-is (tablesOf b) .0 e
-stage-shaped (s then c) e = shaped-after (boardOf s) c
+stage-shaped (on t) e = shaped-is t .0 e
+stage-shaped (s then c) e = shaped-after (tablesAt s) c
 
-reached-is : (s : Stage) → begins? s ≡ true → reached s ≡ boardOf s
+reached-is : (s : Stage) → begins? s ≡ true → reached s ≡ tablesAt s
 unfolding begins? reached
-reached-is (on b) e = refl
-reached-is (s then c) e = ap (λ b. left b c) (reached-is s e) ∙ left-is (boardOf s) c (stage-shaped s e)
+reached-is (on t) e = refl
+reached-is (s then c) e = ap (λ t. left t c) (reached-is s e) ∙ left-is (tablesAt s) c (stage-shaped s e)
 
 -- What a test that comes out true says.
-pub right-holds : (s : Stage) (f : Fact) → right? s f ≡ true → Holds (boardOf s) f
+pub right-holds : (s : Stage) (f : Fact) → right? s f ≡ true → Holds (tablesAt s) f
 unfolding right?
 right-holds s f t =
     let b = and-left (begins? s) (holds? (reached s) f) t in
-    fact-holds (boardOf s) (stage-shaped s b) f (ap (λ d. holds? d f) (sym (reached-is s b)) ∙ and-right (begins? s) (holds? (reached s) f) t)
+    fact-holds (tablesAt s) (stage-shaped s b) f (ap (λ d. holds? d f) (sym (reached-is s b)) ∙ and-right (begins? s) (holds? (reached s) f) t)
 
 -- Where all tests of a list do, each of its entries holds.
-pub every-holds : (l : List (Stage × Fact)) → every? l ≡ true → (e : Stage × Fact) → List·Memᴰ e l → Holds (boardOf (e .0)) (e .1)
+pub every-holds : (l : List (Stage × Fact)) → every? l ≡ true → (e : Stage × Fact) → List·Memᴰ e l → Holds (tablesAt (e .0)) (e .1)
 unfolding every?
 every-holds [] t e m = absurd (List·Memᴰ·not-nil m)
 every-holds (d ∷ l) t e m =
     let p = right? (d .0) (d .1) in
     ⊎-elim
-    (λ q. subst (λ n. Holds (boardOf (n .0)) (n .1)) (sym q) (right-holds (d .0) (d .1) (and-left p (every? l) t)))
+    (λ q. subst (λ n. Holds (tablesAt (n .0)) (n .1)) (sym q) (right-holds (d .0) (d .1) (and-left p (every? l) t)))
     (every-holds l (and-right p (every? l) t) e)
     (List·Memᴰ·cases-cons m)

@@ -1,4 +1,4 @@
--- The board afterwards as it is computed, with the rows that a command cannot touch taken as they are, is that of the definitions.
+-- The tables afterwards as they are computed, with the rows that a command cannot touch taken as they are, are those of the definitions.
 -- Assumes nothing.
 use mathlib.Core.Path.{_≡_, refl, sym, _∙_, ap, ap₂, fun-ext}
 use mathlib.Core.Bool.{Bool, true, false, cond, not, _&&_, _||_, and-true, and-false, or-false, true≢false}
@@ -9,10 +9,8 @@ use borrow.Author.Tests.{eqb-true}
 use Rattle.sets.specs.Sets.{bit, setOf}
 use Rattle.sets.proofs.Bools.{cond-elim}
 use Rattle.sets.proofs.Laws.{is-setOf}
-use Rattle.hierarchy.specs.Tables.{row, Shaped}
-use Rattle.board.specs.Boards.{tablesOf}
+use Rattle.hierarchy.specs.Tables.{Tables, row, Shaped}
 use Rattle.board.specs.Effects.{hasI, hasA, lives, entry, listOf, tableAfter, after}
-use Rattle.board.specs.declared.Board.{Board}
 use Rattle.board.specs.declared.Command.{Command}
 use Rattle.examples.specs.Answer.{touched?, tableLeft, left}
 
@@ -56,10 +54,10 @@ tableLeft-is c seniors juniors part t fits = ap (listOf 64) (fun-ext (λ x.
     is-setOf (row t x) f (fits x) (λ y _.
     sym (entry-stays c seniors juniors part (bit (row t x) y) x y (p .0) (q .0) (λ d. ap (bit (row t x)) (eqb-true y (c .role) d) ∙ q .1))))))
 
-pub left-is : (b : Board) (c : Command) → Shaped (tablesOf b) → left b c ≡ after b c
+pub left-is : (t : Tables) (c : Command) → Shaped t → left t c ≡ after t c
 unfolding left after
-left-is b c s = λ k. record {
-  live = setOf (λ x. lives c (bit (b .live) x) x);
-  i = tableLeft-is c (c .«i_seniors») (c .«i_juniors») (hasI (c .kind)) (b .i) (s .i-fits) k;
-  a = tableLeft-is c (c .«a_seniors») (c .«a_juniors») (hasA (c .kind)) (b .a) (s .a-fits) k;
+left-is t c s = λ k. record {
+  live = setOf (λ x. lives c (bit (t .live) x) x);
+  i = tableLeft-is c (c .«i_seniors») (c .«i_juniors») (hasI (c .kind)) (t .i) (s .i-fits) k;
+  a = tableLeft-is c (c .«a_seniors») (c .«a_juniors») (hasA (c .kind)) (t .a) (s .a-fits) k;
 }

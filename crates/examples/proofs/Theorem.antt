@@ -9,7 +9,7 @@ use Rattle.board.specs.Effects.{lives, entry, listOf}
 use Rattle.board.specs.Commands.{needed, scoped, strictly}
 use Rattle.examples.specs.Boards.{P, W, L}
 use Rattle.examples.specs.Answer.{touched?, tableLeft, left, malformed?, missing?, standing?, noEdge?, inScope?, outside?, first?, answer?, fits?}
-use Rattle.examples.specs.Table.{Stage, boardOf, Fact, Holds, reached, begins?, climbs?, rows?, holds?, right?, every?, table}
+use Rattle.examples.specs.Table.{Stage, tablesAt, Fact, Holds, reached, begins?, climbs?, rows?, holds?, right?, every?, table}
 use Rattle.examples.proofs.Entries.{every-holds}
 
 -- To unfold this is to unfold all that the tests compute with.
@@ -21,5 +21,5 @@ every-right : every? table ≡ true
 unfolding table every? running
 every-right = refl
 
-pub every-entry-holds : (e : Stage × Fact) → List·Memᴰ e table → Holds (boardOf (e .0)) (e .1)
+pub every-entry-holds : (e : Stage × Fact) → List·Memᴰ e table → Holds (tablesAt (e .0)) (e .1)
 every-entry-holds = every-holds table every-right

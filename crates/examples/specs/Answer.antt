@@ -1,19 +1,17 @@
--- The number of a command, computed: each row of document 01's table of refusals as a test that can be run, on any board.
+-- The number of a command, computed: each row of document 01's table of refusals as a test that can be run, on any tables.
 -- `Rattle.examples.proofs.Answering` says that this is the number that the definitions give.
 use mathlib.Core.Bool.{Bool, cond, not, _&&_, _||_}
 use mathlib.Core.List.{List, [], _∷_, _++_}
 use Prim.Native.Nat.{ℕ, _^_, _<_}
 use lib.Dec.{eqb, ltb, leb}
 use Rattle.sets.specs.Sets.{bit, setOf}
-use Rattle.hierarchy.specs.Tables.{row}
+use Rattle.hierarchy.specs.Tables.{Tables, row}
 use Rattle.hierarchy.specs.Compute.{all, any, scope?, admin?, loops?, managed?, sound?}
-use Rattle.board.specs.Boards.{tablesOf}
 use Rattle.board.specs.Effects.{hasI, hasA, lives, entry, listOf}
 use Rattle.board.specs.Commands.{needed, scoped, strictly, edgeKind}
-use Rattle.board.specs.declared.Board.{Board}
 use Rattle.board.specs.declared.Command.{Command}
 
--- ---- the board afterwards
+-- ---- the tables afterwards
 
 -- whether the command may touch row x of a table that `seniors` are entered in: only its own role's, and those with it as a junior
 unfoldable pub touched? : Command → ℕ → List ℕ → ℕ → Bool
@@ -24,12 +22,12 @@ unfoldable pub tableLeft : Command → ℕ → ℕ → Bool → List ℕ → Lis
 tableLeft c seniors juniors part t =
     listOf 64 (λ x. cond (touched? c seniors t x) (setOf (λ y. entry c seniors juniors part (bit (row t x) y) x y)) (row t x))
 
--- the same board as `after b c`, in fewer steps
-unfoldable pub left : Board → Command → Board
-left b c = record {
-  live = setOf (λ x. lives c (bit (b .live) x) x);
-  i = tableLeft c (c .«i_seniors») (c .«i_juniors») (hasI (c .kind)) (b .i);
-  a = tableLeft c (c .«a_seniors») (c .«a_juniors») (hasA (c .kind)) (b .a);
+-- the same tables as `after t c`, in fewer steps
+unfoldable pub left : Tables → Command → Tables
+left t c = record {
+  live = setOf (λ x. lives c (bit (t .live) x) x);
+  i = tableLeft c (c .«i_seniors») (c .«i_juniors») (hasI (c .kind)) (t .i);
+  a = tableLeft c (c .«a_seniors») (c .«a_juniors») (hasA (c .kind)) (t .a);
 }
 
 -- ---- a test for each row
@@ -42,21 +40,21 @@ malformed? c =
     || ((leb 3 (c .code) && ltb 63 (c .junior))
     || ((eqb (c .code) 3 || eqb (c .code) 5) && (ltb (c .kind) 1 || ltb 3 (c .kind))))))
 
-unfoldable pub missing? : Board → Command → Bool
-missing? b c = any 64 (λ x. needed c x && not (bit (b .live) x))
+unfoldable pub missing? : Tables → Command → Bool
+missing? t c = any 64 (λ x. needed c x && not (bit (t .live) x))
 
-unfoldable pub standing? : Board → Command → Bool
-standing? b c = (eqb (c .code) 1 && bit (b .live) (c .role)) || (eqb (c .code) 3 && not (eqb (edgeKind b c) 0))
+unfoldable pub standing? : Tables → Command → Bool
+standing? t c = (eqb (c .code) 1 && bit (t .live) (c .role)) || (eqb (c .code) 3 && not (eqb (edgeKind t c) 0))
 
-unfoldable pub noEdge? : Board → Command → Bool
-noEdge? b c = leb 4 (c .code) && eqb (edgeKind b c) 0
+unfoldable pub noEdge? : Tables → Command → Bool
+noEdge? t c = leb 4 (c .code) && eqb (edgeKind t c) 0
 
-unfoldable pub inScope? : Board → Command → Bool
-inScope? b c =
-    all 64 (λ x. (not (scoped c x) || scope? (tablesOf b) (c .actor) x) && (not (strictly c x) || admin? (tablesOf b) (c .actor) x))
+unfoldable pub inScope? : Tables → Command → Bool
+inScope? t c =
+    all 64 (λ x. (not (scoped c x) || scope? t (c .actor) x) && (not (strictly c x) || admin? t (c .actor) x))
 
-unfoldable pub outside? : Board → Command → Bool
-outside? b c = eqb (c .code) 1 && not (admin? (tablesOf b) (c .actor) (c .role))
+unfoldable pub outside? : Tables → Command → Bool
+outside? t c = eqb (c .code) 1 && not (admin? t (c .actor) (c .role))
 
 -- ---- the rows in the order they are tried
 
@@ -65,27 +63,27 @@ unfoldable pub first? : List (ℕ × Bool) → ℕ
 first? [] = 0
 first? (test ∷ rest) = cond (test .1) (test .0) (first? rest)
 
--- on the board handed in
-abbrev pub before? : Board → Command → List (ℕ × Bool)
-before? b c =
-    (1, not (sound? (tablesOf b)))
+-- on the tables handed in
+abbrev pub before? : Tables → Command → List (ℕ × Bool)
+before? t c =
+    (1, not (sound? t))
     ∷ (2, malformed? c)
-    ∷ (3, missing? b c)
-    ∷ (4, standing? b c)
-    ∷ (5, noEdge? b c)
-    ∷ (6, not (inScope? b c))
+    ∷ (3, missing? t c)
+    ∷ (4, standing? t c)
+    ∷ (5, noEdge? t c)
+    ∷ (6, not (inScope? t c))
     ∷ []
 
--- on the board that the command would leave
-abbrev pub afterwards? : Board → Command → List (ℕ × Bool)
-afterwards? b c =
-    (7, loops? (tablesOf b))
-    ∷ (8, outside? b c)
-    ∷ (9, not (managed? (tablesOf b)))
+-- on the tables that the command would leave
+abbrev pub afterwards? : Tables → Command → List (ℕ × Bool)
+afterwards? t c =
+    (7, loops? t)
+    ∷ (8, outside? t c)
+    ∷ (9, not (managed? t))
     ∷ []
 
-unfoldable pub answer? : Board → Command → ℕ
-answer? b c = first? (before? b c ++ afterwards? (left b c) c)
+unfoldable pub answer? : Tables → Command → ℕ
+answer? t c = first? (before? t c ++ afterwards? (left t c) c)
 
 -- ---- the shape of a command
 

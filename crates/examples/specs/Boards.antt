@@ -1,22 +1,22 @@
--- The boards of document 01's examples, and commands as its table of commands names their fields.
+-- The boards of document 01's examples by their tables, and commands as its table of commands names their fields.
 use mathlib.Core.List.{_∷_}
 use Prim.Native.Nat.{ℕ}
 use lib.ListN.{replicate}
-use Rattle.board.specs.declared.Board.{Board}
+use Rattle.hierarchy.specs.Tables.{Tables}
 use Rattle.board.specs.declared.Command.{Command}
 
 -- A set of roles is written in binary, role 0 at the right end. The rows of a table start with role 0's.
 
 -- 0 I 1, 1 I 2, 1 A 3
-unfoldable pub P : Board
+unfoldable pub P : Tables
 P = record { live = 0b1111; i = 0b0010 ∷ 0b0100 ∷ replicate 62 0; a = 0 ∷ 0b1000 ∷ replicate 62 0 }
 
 -- 0 I 1, 0 I 2, 0 I 3, 1 A 3, 1 A 4, 3 A 5, 4 A 5
-unfoldable pub W : Board
+unfoldable pub W : Tables
 W = record { live = 0b111111; i = 0b001110 ∷ replicate 63 0; a = 0 ∷ 0b011000 ∷ 0 ∷ 0b100000 ∷ 0b100000 ∷ replicate 59 0 }
 
 -- 0 I 1, 1 I 2, 2 A 3, 0 A 3
-unfoldable pub L : Board
+unfoldable pub L : Tables
 L = record { live = 0b1111; i = 0b0010 ∷ 0b0100 ∷ replicate 62 0; a = 0b1000 ∷ 0 ∷ 0b1000 ∷ replicate 61 0 }
 
 -- the kinds by their letters

@@ -1,4 +1,4 @@
--- Document 01's examples in one table, the marked ones and the others. An entry is a stage, which stands for a board, and a fact:
+-- Document 01's examples in one table, the marked ones and the others. An entry is a stage, which stands for the tables of a board, and a fact:
 -- what it says of that board, in the words of the definitions. Each has a test that can be run.
 -- `Rattle.examples.proofs.Theorem` has the theorem: every entry holds.
 use mathlib.Core.Path.{_≡_}
@@ -12,7 +12,7 @@ use Rattle.hierarchy.specs.Tables.{Tables}
 use Rattle.hierarchy.specs.Words.{Derives, Scope, Administrator, LineManager, Loops, Sound, Climb}
 use Rattle.hierarchy.specs.First.{First}
 use Rattle.hierarchy.specs.Compute.{any, derives?, scope?, admin?, manager?, loops?, shaped?, sound?}
-use Rattle.board.specs.Boards.{tablesOf}
+use Rattle.board.specs.Boards.{tablesOf, KeepsRight}
 use Rattle.board.specs.Effects.{after}
 use Rattle.board.specs.Commands.{refusals}
 use Rattle.board.specs.declared.Board.{Board}
@@ -22,15 +22,15 @@ use Rattle.examples.specs.Answer.{left, answer?, fits?}
 
 -- ---- stages and facts, and what they mean
 
--- a board, or what a command would leave of a stage
+-- tables, or what a command would leave of a stage
 infixl 5 _then_
 pub data Stage : Type 0 where
-  on : Board → Stage
+  on : Tables → Stage
   _then_ : Stage → Command → Stage
 
-abbrev pub boardOf : Stage → Board
-boardOf (on b) = b
-boardOf (s then c) = after (boardOf s) c
+abbrev pub tablesAt : Stage → Tables
+tablesAt (on t) = t
+tablesAt (s then c) = after (tablesAt s) c
 
 pub data Fact : Type 0 where
   sound : Fact
@@ -41,37 +41,37 @@ pub data Fact : Type 0 where
   alone : (r : ℕ) → Fact
   loops : Fact
   gives : Command → (n : ℕ) → Fact
-  same : Board → Fact
+  same : Tables → Fact
 
-abbrev pub Holds : Board → Fact → Type 0
-Holds b sound = Sound (tablesOf b)
+abbrev pub Holds : Tables → Fact → Type 0
+Holds t sound = Sound t
 -- x derives y, or it does not
-Holds b (derives x y true) = Derives (tablesOf b) x y
-Holds b (derives x y false) = Derives (tablesOf b) x y → ⊥
+Holds t (derives x y true) = Derives t x y
+Holds t (derives x y false) = Derives t x y → ⊥
 -- the scope of a is just this set
-Holds b (scope a set) = (r : ℕ) → Scope (tablesOf b) a r ↔ (r isIn set)
+Holds t (scope a set) = (r : ℕ) → Scope t a r ↔ (r isIn set)
 -- the line manager of r is m
-Holds b (manager r m) = LineManager (tablesOf b) m r
+Holds t (manager r m) = LineManager t m r
 -- from r up to role 0 by line managers it is n steps
-Holds b (steps r n) = Climb (tablesOf b) r n
+Holds t (steps r n) = Climb t r n
 -- r has no administrator
-Holds b (alone r) = (a : ℕ) → Administrator (tablesOf b) a r → ⊥
+Holds t (alone r) = (a : ℕ) → Administrator t a r → ⊥
 -- some role reaches itself
-Holds b loops = Loops (tablesOf b)
--- the command gives the number n
-Holds b (gives c n) = First (refusals b c) n
--- it is this board
-Holds b (same d) = b ≡ d
+Holds t loops = Loops t
+-- on every board of these tables whose kept values are right the command gives the number n
+Holds t (gives c n) = (b : Board) → tablesOf b ≡ t → KeepsRight b → First (refusals b c) n
+-- it is these tables
+Holds t (same d) = t ≡ d
 
 -- ---- the tests
 
--- the board of a stage, computed; and whether the board that it begins with has its shape
-unfoldable pub reached : Stage → Board
-reached (on b) = b
+-- the tables of a stage, computed; and whether those that it begins with have their shape
+unfoldable pub reached : Stage → Tables
+reached (on t) = t
 reached (s then c) = left (reached s) c
 
 unfoldable pub begins? : Stage → Bool
-begins? (on b) = shaped? (tablesOf b)
+begins? (on t) = shaped? t
 begins? (s then c) = begins? s
 
 unfoldable pub climbs? : Tables → ℕ → ℕ → Bool
@@ -84,16 +84,16 @@ rows? [] (y ∷ ys) = false
 rows? (x ∷ xs) [] = false
 rows? (x ∷ xs) (y ∷ ys) = eqb x y && rows? xs ys
 
-unfoldable pub holds? : Board → Fact → Bool
-holds? b sound = sound? (tablesOf b)
-holds? b (derives x y so) = Bool·beq (derives? (tablesOf b) x y) so
-holds? b (scope a set) = eqb (setOf (scope? (tablesOf b) a)) set
-holds? b (manager r m) = manager? (tablesOf b) m r
-holds? b (steps r n) = climbs? (tablesOf b) n r
-holds? b (alone r) = not (any 64 (λ a. admin? (tablesOf b) a r))
-holds? b loops = loops? (tablesOf b)
-holds? b (gives c n) = fits? c && eqb (answer? b c) n
-holds? b (same d) = eqb (b .live) (d .live) && (rows? (b .i) (d .i) && rows? (b .a) (d .a))
+unfoldable pub holds? : Tables → Fact → Bool
+holds? t sound = sound? t
+holds? t (derives x y so) = Bool·beq (derives? t x y) so
+holds? t (scope a set) = eqb (setOf (scope? t a)) set
+holds? t (manager r m) = manager? t m r
+holds? t (steps r n) = climbs? t n r
+holds? t (alone r) = not (any 64 (λ a. admin? t a r))
+holds? t loops = loops? t
+holds? t (gives c n) = fits? c && eqb (answer? t c) n
+holds? t (same d) = eqb (t .live) (d .live) && (rows? (t .i) (d .i) && rows? (t .a) (d .a))
 
 unfoldable pub right? : Stage → Fact → Bool
 right? s f = begins? s && holds? (reached s) f

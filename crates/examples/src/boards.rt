@@ -1,24 +1,45 @@
 // The boards and the commands of the examples, the same as those of the table of examples.
 ghost use mathlib.Core.Path.{_≡_};
+ghost use Rattle.hierarchy.specs.Tables.{tables};
+ghost use Rattle.board.specs.Boards.{tablesOf};
 ghost use Rattle.examples.specs.Boards.{P, W, L, command, addRole, removeRole, addEdge, changeEdge};
 use board::Board;
 use board::Command;
+use hierarchy::working::work_out;
+
+// The board of these tables; what it keeps is worked out.
+fn of(live: u64, i: [u64; 64], a: [u64; 64]) -> Board
+    ensures { λ r. ⌜ tablesOf r ≡ tables live i a ⌝ }
+{
+    let mut derives = [0u64; 64];
+    let mut derivers = [0u64; 64];
+    let mut manager = [0u8; 64];
+    work_out(live, &i, &a, &mut derives, &mut derivers, &mut manager);
+    Board {
+        live,
+        i,
+        a,
+        derives,
+        derivers,
+        manager,
+    }
+}
 
 // 0 I 1, 1 I 2, 1 A 3
 pub(crate) fn p() -> Board
-    ensures { λ r. ⌜ r ≡ P ⌝ }
+    ensures { λ r. ⌜ tablesOf r ≡ P ⌝ }
 {
     let mut i = [0u64; Board::ROLES];
     i[0] = 0b0010;
     i[1] = 0b0100;
     let mut a = [0u64; Board::ROLES];
     a[1] = 0b1000;
-    Board { live: 0b1111, i, a }
+    of(0b1111, i, a)
 }
 
 // 0 I 1, 0 I 2, 0 I 3, 1 A 3, 1 A 4, 3 A 5, 4 A 5
 pub(crate) fn w() -> Board
-    ensures { λ r. ⌜ r ≡ W ⌝ }
+    ensures { λ r. ⌜ tablesOf r ≡ W ⌝ }
 {
     let mut i = [0u64; Board::ROLES];
     i[0] = 0b001110;
@@ -26,16 +47,12 @@ pub(crate) fn w() -> Board
     a[1] = 0b011000;
     a[3] = 0b100000;
     a[4] = 0b100000;
-    Board {
-        live: 0b111111,
-        i,
-        a,
-    }
+    of(0b111111, i, a)
 }
 
 // 0 I 1, 1 I 2, 2 A 3, 0 A 3
 pub(crate) fn l() -> Board
-    ensures { λ r. ⌜ r ≡ L ⌝ }
+    ensures { λ r. ⌜ tablesOf r ≡ L ⌝ }
 {
     let mut i = [0u64; Board::ROLES];
     i[0] = 0b0010;
@@ -43,7 +60,7 @@ pub(crate) fn l() -> Board
     let mut a = [0u64; Board::ROLES];
     a[0] = 0b1000;
     a[2] = 0b1000;
-    Board { live: 0b1111, i, a }
+    of(0b1111, i, a)
 }
 
 fn command(

@@ -7,12 +7,9 @@ use board::Board;
 use board::Command;
 use board::checks;
 use board::commands::step;
-use board::effects::after;
 use board::questions;
 use board::questions::Manager;
-use hierarchy::scopes::managed;
-use hierarchy::views::fill_down;
-use hierarchy::views::fill_up;
+use hierarchy::working::work_out;
 use sets::has;
 
 fn text(s: &[u8]) {
@@ -213,19 +210,19 @@ pub(crate) fn change_edge(
     run(b, boards::change_edge(a, senior, junior, kind))
 }
 
-// What is wrong with the board that a command would leave. Its entries join live roles, so what is not in order is a loop.
-pub(crate) fn trouble(name: &[u8], b: Board, c: Command) {
+// What is wrong with the board of these tables. Its entries join live roles, so what is not in order is a loop.
+pub(crate) fn trouble(name: &[u8], live: u64, i: [u64; 64], a: [u64; 64]) {
     text(name);
     text(b": trouble: ");
-    let next = after(b, c);
-    let mut down = [0u64; 64];
-    let mut up = [0u64; 64];
-    if fill_down(next.live, &next.i, &next.a, &mut down) != next.live {
+    let mut derives = [0u64; 64];
+    let mut derivers = [0u64; 64];
+    let mut manager = [0u8; 64];
+    let found = work_out(live, &i, &a, &mut derives, &mut derivers, &mut manager);
+    if found == 7 {
         text(b"a role that reaches itself\n");
         return;
     }
-    fill_up(next.live, &down, &mut up);
-    if !managed(next.live, &down, &up) {
+    if found == 9 {
         text(b"a role without an administrator\n");
         return;
     }
@@ -246,7 +243,7 @@ fn same_rows(s: [u64; 64], t: [u64; 64]) -> bool
     true
 }
 
-// Whether the two boards are the same.
+// Whether the two boards are the same: their tables and the sets that they keep, which settle the line managers.
 pub(crate) fn same(name: &[u8], b: Board, d: Board) {
     text(name);
     text(b": ");
@@ -254,5 +251,10 @@ pub(crate) fn same(name: &[u8], b: Board, d: Board) {
     let ba = b.a;
     let di = d.i;
     let da = d.a;
-    yes_or_no(b.live == d.live && same_rows(bi, di) && same_rows(ba, da));
+    let tables = b.live == d.live && same_rows(bi, di) && same_rows(ba, da);
+    let bd = b.derives;
+    let bu = b.derivers;
+    let dd = d.derives;
+    let du = d.derivers;
+    yes_or_no(tables && same_rows(bd, dd) && same_rows(bu, du));
 }

@@ -46,7 +46,10 @@ fn removals_on_p() {
 fn loops_on_p_and_l() {
     let b = p();
     lines::add_edge(b"P", b, 0, 3, 0, 1);
-    lines::trouble(b"P with 3 I 0", b, boards::add_edge(0, 3, 0, 1));
+    let mut i = b.i;
+    i[3] = 0b1;
+    let a = b.a;
+    lines::trouble(b"P with 3 I 0", b.live, i, a);
     lines::add_edge(b"P", b, 0, 2, 1, 1);
     lines::add_edge(b"P", b, 0, 1, 1, 1);
     let d = l();
@@ -60,7 +63,10 @@ fn edges_on_w() {
     let b = w();
     lines::sound(b"W", b);
     lines::add_edge(b"W", b, 0, 2, 3, 2);
-    lines::trouble(b"W with 2 A 3", b, boards::add_edge(0, 2, 3, 2));
+    let i = b.i;
+    let mut a = b.a;
+    a[2] = 0b1000;
+    lines::trouble(b"W with 2 A 3", b.live, i, a);
     lines::manager(b"W", b, 3);
     let more = lines::add_edge(b"W", b, 0, 2, 3, 1);
     lines::manager(b"W with 2 I 3", more, 3);

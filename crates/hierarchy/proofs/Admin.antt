@@ -7,8 +7,9 @@ use native.Mathlib.Decide.{ℕ-discrete}
 use native.Mathlib.Omega.{arith}
 use Rattle.sets.proofs.Laws.{bit-lt}
 use Rattle.hierarchy.specs.Tables.{Tables, Live, Shaped, join}
-use Rattle.hierarchy.specs.Words.{Way, Reaches, Derives, Administrator, LineManager, Loops}
+use Rattle.hierarchy.specs.Words.{Way, Reaches, Derives, Administrator, LineManager, Sound}
 use Rattle.hierarchy.specs.Words.{Way.edge, Way.then}
+use Rattle.hierarchy.specs.Views.{LiveLoops}
 use Rattle.hierarchy.proofs.Joins.{join-assoc}
 use Rattle.hierarchy.proofs.Decide.{admin-dec}
 
@@ -41,11 +42,15 @@ admin-reaches h = derives-reaches (h .scope .derives) (h .strict)
 pub admins-related : {t : Tables} {a c r : ℕ} → Administrator t a r → Administrator t c r → Derives t a c ⊎ Derives t c a
 admins-related h g = g .scope .rivals _ (h .scope .derives)
 
--- ---- on tables without loops
+-- ---- on tables without loops of live roles
 
-module _ {t : Tables} (loopless : Loops t → ⊥) where
-  no-return : {x y : ℕ} → Reaches t x y → Derives t y x → ⊥
-  no-return {x} r d = ⊎-elim (λ e. loopless (x, subst (Reaches t x) e r)) (λ w. loopless (x, reaches-trans r w)) (same-or-reaches d)
+-- as sound ones are
+pub sound-loopless : {t : Tables} → Sound t → LiveLoops t → ⊥
+sound-loopless sound l = sound .loopless (l .0, l .1 .1)
+
+module _ {t : Tables} (loopless : LiveLoops t → ⊥) where
+  pub no-return : {x y : ℕ} → Reaches t x y → Derives t y x → ⊥
+  no-return {x} r d = ⊎-elim (λ e. loopless (x, (d .to, subst (Reaches t x) e r))) (λ w. loopless (x, (d .to, reaches-trans r w))) (same-or-reaches d)
 
   -- Two roles that derive each other are the same.
   pub antisym : {x y : ℕ} → Derives t x y → Derives t y x → x ≡ y

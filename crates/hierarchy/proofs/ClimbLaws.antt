@@ -16,7 +16,7 @@ use Rattle.hierarchy.specs.Tables.{Tables, Live}
 use Rattle.hierarchy.specs.Words.{Reaches, LineManager, Sound, Climb}
 use Rattle.hierarchy.specs.Words.{Climb.top, Climb.up}
 use Rattle.hierarchy.proofs.Derive.{starts}
-use Rattle.hierarchy.proofs.Admin.{reaches-trans, admin-live, admin-reaches, manager-unique, manager-exists}
+use Rattle.hierarchy.proofs.Admin.{sound-loopless, reaches-trans, admin-live, admin-reaches, manager-unique, manager-exists}
 
 -- the roles that a climb meets, from the first to role 0
 unfoldable pub met : {t : Tables} {r n : ℕ} → Climb t r n → List ℕ
@@ -70,7 +70,7 @@ module _ {t : Tables} (sound : Sound t) where
       dite (ℕ-discrete r 0)
       (λ e. (0, subst (λ r. Climb t r 0) (sym e) top, omega arith))
       (λ n.
-      let b = manager-exists (sound .loopless) (sound .shaped) r (sound .managed r l n .1) in
+      let b = manager-exists (sound-loopless sound) (sound .shaped) r (sound .managed r l n .1) in
       let w = admin-reaches (b .1 .admin) in
       let c = climb-in k (but s r) (b .0) (omega arith) (setOf-fits _) (rest (b .0) w) (λ x v. rest x (reaches-trans v w)) (admin-live (b .1 .admin)) in
       (suc (c .0), up (b .1) (c .1), omega arith))
@@ -104,7 +104,7 @@ module _ {t : Tables} (sound : Sound t) where
   climb-unique top (up h d) = absurd (no-senior _ (admin-reaches (h .admin)))
   climb-unique (up h c) top = absurd (no-senior _ (admin-reaches (h .admin)))
   climb-unique (up h c) (up {n = n} g d) =
-      ap suc (climb-unique c (subst (λ m. Climb t m n) (manager-unique (sound .loopless) g h) d))
+      ap suc (climb-unique c (subst (λ m. Climb t m n) (manager-unique (sound-loopless sound) g h) d))
 
   -- Nor is there another way: two climbs meet the same roles.
   pub met-unique : {r s m n : ℕ} (c : Climb t r m) (d : Climb t s n) → r ≡ s → met c ≡ met d
@@ -112,7 +112,7 @@ module _ {t : Tables} (sound : Sound t) where
   met-unique top top e = refl
   met-unique top (up h d) e = absurd (no-senior _ (subst (Reaches t _) (sym e) (admin-reaches (h .admin))))
   met-unique (up h c) top e = absurd (no-senior _ (subst (Reaches t _) e (admin-reaches (h .admin))))
-  met-unique (up h c) (up {m = k} g d) e = ap₂ _∷_ e (met-unique c d (manager-unique (sound .loopless) h (subst (LineManager t k) (sym e) g)))
+  met-unique (up h c) (up {m = k} g d) e = ap₂ _∷_ e (met-unique c d (manager-unique (sound-loopless sound) h (subst (LineManager t k) (sym e) g)))
 
   climb-live : {r n : ℕ} → Climb t r n → Live t r
   climb-live top = sound .root

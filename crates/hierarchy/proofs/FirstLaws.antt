@@ -1,6 +1,6 @@
 -- A refusal table has one answer. Assumes nothing.
 use mathlib.Core.Path.{_≡_, refl, sym, _∙_}
-use mathlib.Core.Logic.{inl, inr}
+use mathlib.Core.Logic.{_≢_, inl, inr}
 use mathlib.Core.List.{List, [], _∷_}
 use Prim.Native.Nat.{ℕ}
 use Rattle.hierarchy.specs.First.{First}
@@ -22,6 +22,12 @@ pass k P t n h f = inr (h, f)
 pub hit : (k : ℕ) (P : Type 0) (t : List (ℕ × Type 0)) → P → First ((k, P) ∷ t) k
 unfolding First
 hit k P t h = inl (h, refl)
+
+-- another number than a condition's shows that it failed
+pub passed : (k : ℕ) (P : Type 0) (t : List (ℕ × Type 0)) (n : ℕ) → n ≢ k → First ((k, P) ∷ t) n → P → ⊥
+unfolding First
+passed k P t n q (inl f) h = q (f .1)
+passed k P t n q (inr f) h = f .0 h
 
 pub none : First [] 0
 unfolding First

@@ -9,9 +9,11 @@ pub mod Decide
 pub mod Admin
 pub mod ClimbLaws
 pub mod ViewLaws
+pub mod ManagerLaws
 pub mod Rows
 pub mod Sift
 pub mod Managing
 pub mod Rounds
-pub mod Sweeps
+pub mod Walk
 pub mod Order
+pub mod Outcome

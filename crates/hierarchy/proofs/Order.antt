@@ -22,6 +22,9 @@ starts (then {y = y} h w) = (y, h)
 pub settles-live : {t : Tables} {x : ℕ} → Settles t x → Live t x
 settles-live (settle l f) = l
 
+pub settles-junior : {t : Tables} {x y : ℕ} → Settles t x → kind t x y ≢ 0 → Settles t y
+settles-junior {y = y} (settle l f) h = f y h
+
 -- what settles does not reach itself: its juniors would
 settles-loopless : {t : Tables} {x : ℕ} → Settles t x → Reaches t x x → ⊥
 settles-loopless {x = x} (settle l f) (k, edge h) = settles-loopless (f x h) (k, edge h)
@@ -32,7 +35,7 @@ out-of : (s y : ℕ) → s < 2 ^ 64 → y isIn s → Drawn s y (but s y)
 out-of s y f e = record { role = bit-lt 64 f e; member = e; rest-is = bit-but s y f }
 
 -- v is x or reaches it, and x has the junior y
-over : {t : Tables} {v x y : ℕ} → kind t x y ≢ 0 → (v ≡ x) ⊎ Reaches t v x → Reaches t v y
+pub over : {t : Tables} {v x y : ℕ} → kind t x y ≢ 0 → (v ≡ x) ⊎ Reaches t v x → Reaches t v y
 over {t} {y = y} h (inl q) = subst (λ (z : ℕ). Reaches t z y) (sym q) (_, edge h)
 over h (inr w) = reaches-trans w (_, edge h)
 

@@ -5,8 +5,8 @@ use mathlib.Core.Logic.{_≢_, dite}
 use mathlib.Core.List.{List}
 use Prim.Native.Nat.{ℕ, zero, suc, _<_}
 use native.Mathlib.Decide.{ℕ-discrete}
-use lib.ListN.{set, length, length-set, replicate}
-use lib.Seq.{getD-set-same, getD-set-other}
+use lib.ListN.{getD, set, length, length-set, replicate}
+use lib.Seq.{getD-set-same, getD-set-other, set-getD}
 use Rattle.sets.specs.Sets.{bit, _isIn_, _areIn_, same?, NoRole}
 use Rattle.sets.proofs.Bools.{and-left, and-right, and-both, not-so}
 use Rattle.sets.proofs.Digits.{bit-zero}
@@ -22,10 +22,18 @@ blank-row zero x = refl
 blank-row (suc n) zero = refl
 blank-row (suc n) (suc x) = blank-row n x
 
+-- within the list it is all one what stands for an entry past it
+pub entry-of : (l : List ℕ) (i d e : ℕ) → i < length l → getD l i d ≡ getD l i e
+entry-of l i d e h = ap (λ (k : List ℕ). getD k i d) (sym (set-getD l i e)) ∙ getD-set-same l i (getD l i e) d h
+
+-- a fact about an entry after a store, from its two cases
+pub entry-set : (d : ℕ) (t : List ℕ) (x v y : ℕ) → x < length t → (P : ℕ → Type 0) → (y ≡ x → P v) → (y ≢ x → P (getD t y d)) → P (getD (set t x v) y d)
+entry-set d t x v y l P same other = dite (ℕ-discrete y x)
+    (λ e. subst P (sym (ap (λ (k : ℕ). getD (set t x v) k d) e ∙ getD-set-same t x v d l)) (same e))
+    (λ n. subst P (sym (getD-set-other t x y v d n)) (other n))
+
 pub row-set : (t : List ℕ) (x v y : ℕ) → x < length t → (P : ℕ → Type 0) → (y ≡ x → P v) → (y ≢ x → P (row t y)) → P (row (set t x v) y)
-row-set t x v y l P same other = dite (ℕ-discrete y x)
-    (λ e. subst P (sym (ap (λ (k : ℕ). row (set t x v) k) e ∙ getD-set-same t x v 0 l)) (same e))
-    (λ n. subst P (sym (getD-set-other t x y v 0 n)) (other n))
+row-set = entry-set 0
 
 -- ---- a role goes into many rows
 

@@ -14,8 +14,8 @@ module _ {t : Tables} (sound : Sound t) where
   -- Each live role but 0 has exactly one line manager.
   pub one-manager : (r : ℕ) → Live t r → r ≢ 0 → (m : ℕ) × LineManager t m r × ((n : ℕ) → LineManager t n r → n ≡ m)
   one-manager r l n =
-      let m = Admin.manager-exists (sound .loopless) (sound .shaped) r (sound .managed r l n .1) in
-      (m .0, m .1, λ k g. Admin.manager-unique (sound .loopless) g (m .1))
+      let m = Admin.manager-exists (Admin.sound-loopless sound) (sound .shaped) r (sound .managed r l n .1) in
+      (m .0, m .1, λ k g. Admin.manager-unique (Admin.sound-loopless sound) g (m .1))
 
   -- Role 0 has no senior,
   pub no-senior : (x : ℕ) → Reaches t x 0 → ⊥

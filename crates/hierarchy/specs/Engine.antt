@@ -1,15 +1,14 @@
--- What the steps of the engine behind the views promise each other. No promise of a public function speaks of these.
+-- What the steps of the engine behind the views and the line managers promise each other. No promise of a public function speaks of these.
 use mathlib.Core.Path.{_≡_}
-use mathlib.Core.Logic.{_⊎_, _↔_}
-use mathlib.Core.Bool.{false, _&&_, _||_}
+use mathlib.Core.Logic.{_⊎_, _↔_, _≢_}
+use mathlib.Core.Bool.{Bool, true, false, _&&_, _||_}
 use mathlib.Core.List.{List}
 use Prim.Native.Nat.{ℕ, _<_}
-use lib.ListN.{length}
-use Rattle.sets.specs.Sets.{bit, _isIn_, _areIn_, same?, NoRole}
-use Rattle.sets.specs.declared.Pick.{Pick}
-use Rattle.sets.specs.declared.Pick.the-variants.{Role, Nobody}
-use Rattle.hierarchy.specs.Tables.{row}
-use Rattle.hierarchy.specs.Words.{Chain}
+use lib.ListN.{length, replicate}
+use Rattle.sets.specs.Sets.{bit, _isIn_, _areIn_, same?}
+use Rattle.hierarchy.specs.Tables.{Tables, tables, row}
+use Rattle.hierarchy.specs.Words.{Chain, Derives, Administrator, LineManager}
+use Rattle.hierarchy.specs.Views.{AreViews, InOrder, LiveLoops, managerAt}
 
 -- an entry of either table
 abbrev pub Entry : List ℕ → List ℕ → ℕ → ℕ → Type 0
@@ -55,33 +54,76 @@ pub record Right (i a by-i down : List ℕ) (done : ℕ) : Type 0 where
   pub closed : (x y : ℕ) → x isIn done → Entry i a x y → y isIn done
   pub ends : (x : ℕ) → x isIn done → Founded i a x
 
--- one role of s, whichever
-pub record IsOf (s r : ℕ) : Type 0 where
-  pub role : r < 64
-  pub member : r isIn s
+-- x can be settled: its juniors are done
+pub record Ready (i a by-i down : List ℕ) (done x : ℕ) : Type 0 where
+  pub right : Right i a by-i down done
+  pub role : x < 64
+  pub below : (y : ℕ) → Entry i a x y → y isIn done
 
-abbrev pub OneOf : ℕ → Pick → Type 0
-OneOf s (Role r) = IsOf s r
-OneOf s Nobody = NoRole s
-
--- x has a junior that isn't done
-abbrev pub Waits : List ℕ → List ℕ → ℕ → ℕ → Type 0
-Waits i a done x = (y : ℕ) × Entry i a x y × (bit done y ≡ false)
-
--- more is done than was, and rightly; what was left and isn't done was waiting
-pub record Swept (i a : List ℕ) (done left : ℕ) (by-i down : List ℕ) (r : ℕ) : Type 0 where
+-- x is done too, and rightly
+pub record Finished (i a by-i down : List ℕ) (done x r : ℕ) : Type 0 where
   pub right : Right i a by-i down r
+  pub done-is : (y : ℕ) → bit r y ≡ (bit done y || same? x y)
+
+-- of the live roles these are done, and rightly; and there is room for a path
+pub record SoFar (live : ℕ) (i a by-i down path : List ℕ) (done : ℕ) : Type 0 where
+  pub right : Right i a by-i down done
+  pub part : done areIn live
+  pub places : length path ≡ 64
+
+-- a walk down from root can start
+pub record Starts (live : ℕ) (i a by-i down path : List ℕ) (done root : ℕ) : Type 0 where
+  pub so-far : SoFar live i a by-i down path done
+  pub alive : root isIn live
+  pub fresh : bit done root ≡ false
+
+-- more are done than were; the root is, unless there is no order
+pub record Descended (live : ℕ) (i a by-i down path : List ℕ) (done root r : ℕ) : Type 0 where
+  pub so-far : SoFar live i a by-i down path r
   pub more : done areIn r
-  pub part : (x : ℕ) → x isIn r → (x isIn done) ⊎ (x isIn left)
-  pub waiting : (x : ℕ) → x isIn left → (x isIn r) ⊎ Waits i a done x
+  pub stuck : bit r root ≡ false → InOrder (tables live i a) → ⊥
 
--- of the live roles all are done but those that wait for ever
-pub record Ordered (live : ℕ) (i a by-i down : List ℕ) (r : ℕ) : Type 0 where
-  pub right : Right i a by-i down r
-  pub part : r areIn live
-  pub waiting : (x : ℕ) → x isIn live → (x isIn r) ⊎ Waits i a r x
+-- all live roles are done, or there is no order
+pub record Ordered (live : ℕ) (i a by-i down : List ℕ) (r : Bool) : Type 0 where
+  pub right : r ≡ true → Right i a by-i down live
+  pub stuck : r ≡ false → InOrder (tables live i a) → ⊥
+
+-- r is whether the live roles are in order; down is then what they derive, else blank
+pub record FilledDown (t : Tables) (r : Bool) (down : List ℕ) : Type 0 where
+  pub order : (r ≡ true) ↔ InOrder t
+  pub down-rows : length down ≡ 64
+  pub down-is : r ≡ true → (x y : ℕ) → (y isIn row down x) ↔ Derives t x y
+  pub blank : r ≡ false → down ≡ replicate 64 0
 
 -- x has gone into the row of each role of s
 pub record Marked (up : List ℕ) (s x : ℕ) (marked : List ℕ) : Type 0 where
   pub rows : length marked ≡ 64
   pub members : (y z : ℕ) → bit (row marked y) z ≡ (bit (row up y) z || (bit s y && same? x z))
+
+-- ---- line managers
+
+-- a is an administrator of r, asked of whatever derives r: a is above it or below it
+pub record Above (down up : List ℕ) (a r : ℕ) : Type 0 where
+  pub derives : a isIn row up r
+  pub strict : a ≢ r
+  pub rivals : (x : ℕ) → x isIn row up r → (a isIn row up x) ⊎ (a isIn row down x)
+
+-- down is what the roles of t derive, without a loop, and s the set of the administrators of r
+pub record AdminsOf (t : Tables) (down : List ℕ) (s r : ℕ) : Type 0 where
+  pub loopless : LiveLoops t → ⊥
+  pub down-is : (x y : ℕ) → (y isIn row down x) ↔ Derives t x y
+  pub members : (a : ℕ) → (a isIn s) ↔ Administrator t a r
+
+-- m is the line manager of r, or 64 where r has no administrator
+abbrev pub NearestIs : Tables → ℕ → ℕ → Type 0
+NearestIs t r m = LineManager t m r ⊎ (((a : ℕ) → Administrator t a r → ⊥) × (m ≡ 64))
+
+-- the live roles of t are those of live, without a loop, and down and up its views
+pub record Orderly (t : Tables) (live : ℕ) (down up : List ℕ) : Type 0 where
+  pub live-is : t .live ≡ live
+  pub loopless : LiveLoops t → ⊥
+  pub views : AreViews t down up
+
+pub record Managers (t : Tables) (manager : List ℕ) : Type 0 where
+  pub rows : length manager ≡ 64
+  pub nearest : (r : ℕ) → NearestIs t r (managerAt manager r)

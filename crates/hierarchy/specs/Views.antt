@@ -1,17 +1,17 @@
--- The two tables that are worked out once a board and handed on: row x of `down` is the set of what x derives, row y of `up` the
--- set of what derives y. The words of scope again, read off such tables; `Rattle.hierarchy.proofs.ViewLaws` says that they are the same.
+-- The values that are worked out once a board and kept with it: row x of `down` is the set of what x derives, row y of `up` the set of
+-- what derives y, and the line managers. The words of scope again, read off the two tables; `Rattle.hierarchy.proofs.ViewLaws` says that
+-- they are the same.
 use mathlib.Core.Path.{_≡_}
+use mathlib.Core.Bool.{cond}
 use mathlib.Core.Logic.{_≢_, _⊎_, _↔_}
-use mathlib.Core.List.{List}
-use Prim.Native.Nat.{ℕ, suc, _≤_, _<_}
-use lib.ListN.{length}
+use mathlib.Core.List.{List, [], _∷_}
+use Prim.Native.Nat.{ℕ, zero, suc}
+use lib.Dec.{eqb}
+use lib.ListN.{getD, length, replicate}
 use Rattle.sets.specs.Sets.{_isIn_}
-use Rattle.sets.specs.declared.Pick.{Pick}
-use Rattle.sets.specs.declared.Pick.the-variants.{Role, Nobody}
-use Rattle.hierarchy.specs.declared.scopes.Climbed.{Climbed}
-use Rattle.hierarchy.specs.declared.scopes.Climbed.the-variants.{Steps, Stopped}
 use Rattle.hierarchy.specs.Tables.{Tables, row, Live, kind}
-use Rattle.hierarchy.specs.Words.{Reaches, Derives}
+use Rattle.hierarchy.specs.Words.{Reaches, Derives, LineManager, Managed}
+use Rattle.hierarchy.specs.First.{First}
 
 -- down and up are the views of t, a row for each role
 pub record AreViews (t : Tables) (down up : List ℕ) : Type 0 where
@@ -36,12 +36,6 @@ Inward t = (x y : ℕ) → Live t x → kind t x y ≢ 0 → Live t y
 abbrev pub LiveLoops : Tables → Type 0
 LiveLoops t = (x : ℕ) × (Live t x × Reaches t x x)
 
--- Which roles settle; and each row of down is what its role derives, where that settles, else blank.
-pub record Settled (t : Tables) (settled : ℕ) (down : List ℕ) : Type 0 where
-  pub which : (x : ℕ) → (x isIn settled) ↔ Settles t x
-  pub down-is : (x y : ℕ) → (y isIn row down x) ↔ ((x isIn settled) × Derives t x y)
-  pub down-rows : length down ≡ 64
-
 -- up is down turned round: whose row has y, of the roles of live
 pub record Turned (live : ℕ) (down up : List ℕ) : Type 0 where
   pub up-is : (x y : ℕ) → (x isIn row up y) ↔ ((x isIn live) × (y isIn row down x))
@@ -58,36 +52,35 @@ pub record AdminBy (down up : List ℕ) (a r : ℕ) : Type 0 where
   pub scope : ScopeBy down up a r
   pub strict : a ≢ r
 
--- m is the line manager of r
-pub record ManagerBy (down up : List ℕ) (m r : ℕ) : Type 0 where
-  pub admin : AdminBy down up m r
-  pub lowest : (a : ℕ) → AdminBy down up a r → a ≢ m → a isIn row up m
+-- ---- what a board keeps
 
--- m is the administrator, of those given, that all others derive
-pub record Nearest (up : List ℕ) (administrators m : ℕ) : Type 0 where
-  pub member : m isIn administrators
-  pub lowest : (a : ℕ) → a isIn administrators → a ≢ m → a isIn row up m
+-- the line manager of r as a number: the role that is it, or 64, which is no role, where r has none
+abbrev pub ManagerIs : Tables → ℕ → ℕ → Type 0
+ManagerIs t r m = LineManager t m r ⊎ (((n : ℕ) → LineManager t n r → ⊥) × (m ≡ 64))
 
--- each role of live, but role 0, has an administrator
-abbrev pub ManagedBy : ℕ → List ℕ → List ℕ → Type 0
-ManagedBy live down up = (r : ℕ) → r isIn live → r ≢ 0 → (a : ℕ) × AdminBy down up a r
+-- the entry of r in a row of managers; past the row there is none
+abbrev pub managerAt : List ℕ → ℕ → ℕ
+managerAt manager r = getD manager r 64
 
--- the line manager as an answer. Views of tables without loops have one at most; of two, the lower number is given.
-abbrev pub Managing : List ℕ → List ℕ → ℕ → Pick → Type 0
-Managing down up r (Role m) = ManagerBy down up m r × ((n : ℕ) → ManagerBy down up n r → m ≤ n)
-Managing down up r Nobody = (n : ℕ) → ManagerBy down up n r → ⊥
+-- manager is the row of the line managers of t
+pub record AreManagers (t : Tables) (manager : List ℕ) : Type 0 where
+  pub manager-rows : length manager ≡ 64
+  pub manager-is : (r : ℕ) → ManagerIs t r (managerAt manager r)
 
--- whoever it is, it is a role
-abbrev pub IsRole : Pick → Type 0
-IsRole (Role m) = m < 64
-IsRole Nobody = Unit {0}
+-- The values that a board keeps are right for its tables: what each role derives, what derives it, and its line manager. A role that
+-- doesn't live derives nobody and is derived by nobody, so its sets are empty, and it has no line manager.
+pub record RightValues (t : Tables) (derives derivers manager : List ℕ) : Type 0 where
+  pub views : AreViews t derives derivers
+  pub managers : AreManagers t manager
 
--- from r up to role 0 by these answers, in n steps
-pub data ClimbBy (down up : List ℕ) : ℕ → ℕ → Type 0 where
-  arrived : ClimbBy down up 0 0
-  further : {r m n : ℕ} → r ≢ 0 → Managing down up r (Role m) → ClimbBy down up m n → ClimbBy down up r (suc n)
+-- Worked out for tables: 7 where the live roles are not in order, 9 where one but 0 has no administrator. Unless it is 7 the three are
+-- right. With 7, `derives` is blank, and `derivers` and `manager` are as they were.
+pub record WorkedOut (t : Tables) (derivers manager : List ℕ) (number : ℕ) (derives′ derivers′ manager′ : List ℕ) : Type 0 where
+  pub numbered : First ((7, (InOrder t → ⊥)) ∷ (9, (Managed t → ⊥)) ∷ []) number
+  pub right : number ≢ 7 → RightValues t derives′ derivers′ manager′
+  pub disordered : number ≡ 7 → (derives′ ≡ replicate 64 0) × ((derivers′ ≡ derivers) × (manager′ ≡ manager))
 
--- the steps as an answer: at most 63, or stopped on the way, at a role that is not 0 and has no line manager, or after 64 of them
-abbrev pub Climbing : List ℕ → List ℕ → ℕ → Climbed → Type 0
-Climbing down up r (Steps n) = (n < 64) × ClimbBy down up r n
-Climbing down up r Stopped = (n : ℕ) → ClimbBy down up r n → 64 ≤ n
+-- Going up from r by the managers of a row, with k steps behind: how many it takes to role 0, and 64 where n looks don't arrive.
+unfoldable pub stepsUp : List ℕ → ℕ → ℕ → ℕ → ℕ
+stepsUp manager zero k r = 64
+stepsUp manager (suc n) k r = cond (eqb r 0) k (stepsUp manager n (suc k) (managerAt manager r))

@@ -5,11 +5,11 @@ ghost use Prim.Native.Nat.{ℕ, _<_};
 ghost use lib.ListN.{length, replicate};
 ghost use Rattle.sets.specs.Sets.{_isIn_};
 ghost use Rattle.hierarchy.specs.Tables.{tables};
-ghost use Rattle.hierarchy.specs.Views.{Settled, Turned};
-ghost use Rattle.hierarchy.specs.Engine.{InRows, OneOf, RowSettled, Right, Swept, Ordered, Marked};
+ghost use Rattle.hierarchy.specs.Views.{Turned};
+ghost use Rattle.hierarchy.specs.Engine.{InRows, RowSettled, SoFar, Ready, Finished, Starts, Descended, Ordered, FilledDown, Marked};
 use sets::Pick;
 use sets::but_lowest;
-use sets::highest;
+use sets::has;
 use sets::lowest;
 use sets::minus;
 use sets::single;
@@ -51,69 +51,83 @@ fn settle(table: &[u64; 64], reach: &mut [u64; 64], x: usize, own: u64) -> u64
     row
 }
 
-// The highest role of s, or the lowest.
-fn end_of(s: u64, top: bool) -> Pick
-    ensures { λ r. ⌜ OneOf s r ⌝ }
-{
-    if top {
-        return highest(s);
-    }
-    lowest(s)
-}
-
-// One sweep over the roles that are left, from the top down or from the bottom up: a role whose juniors are all done is settled, first
-// by I alone, then by A and from there by I.
-fn sweep<'t>(
+// Settles x, whose juniors are done, first by I alone, then by A and from there by I; gives the roles that are done now.
+fn finish<'t>(
     i: &'t [u64; 64],
     a: &'t [u64; 64],
     by_i: &mut [u64; 64],
     down: &mut [u64; 64],
     done: u64,
-    left: u64,
-    top: bool,
+    x: usize,
 ) -> u64
-    requires { ⌜ Right (now i) (now a) (now «by_i») (now down) done ⌝ }
-    ensures { λ r. ⌜ Swept (now (i .entry)) (now (a .entry)) done left (now («by_i» .exit)) (now (down .exit)) r ⌝ }
+    requires { ⌜ Ready (now i) (now a) (now «by_i») (now down) done x ⌝ }
+    ensures { λ r. ⌜ Finished (now (i .entry)) (now (a .entry)) (now («by_i» .exit)) (now (down .exit)) done x r ⌝ }
 {
-    let mut now_done = done;
-    let mut rest = left;
+    let row = settle(i, by_i, x, single(x));
+    settle(a, down, x, row);
+    with(done, x)
+}
+
+// Goes down from root, each role of the path a junior of the one before, and settles a role on the way back, when its juniors are done.
+// Fresh are the live roles it hasn't met: a junior neither done nor fresh is on the path, a loop, or doesn't live, and there it stops.
+fn descend<'t>(
+    live: u64,
+    i: &'t [u64; 64],
+    a: &'t [u64; 64],
+    by_i: &mut [u64; 64],
+    down: &mut [u64; 64],
+    path: &mut [u8; 64],
+    start: u64,
+    root: usize,
+) -> u64
+    requires { ⌜ Starts live (now i) (now a) (now «by_i») (now down) (now path) start root ⌝ }
+    ensures { λ r. ⌜ Descended live (now (i .entry)) (now (a .entry)) (now («by_i» .exit)) (now (down .exit)) (now (path .exit)) start root r ⌝ }
+{
+    let mut done = start;
+    let mut fresh = without(minus(live, start), root);
+    let mut above: usize = 0;
+    path[0] = root as u8;
     loop {
-        let Pick::Role(x) = end_of(rest, top) else {
-            return now_done;
-        };
-        rest = without(rest, x);
-        if within(union(i[x], a[x]), now_done) {
-            let row = settle(i, by_i, x, single(x));
-            settle(a, down, x, row);
-            now_done = with(now_done, x);
+        let x = path[above] as usize;
+        let waiting = minus(union(i[x], a[x]), done);
+        if let Pick::Role(y) = lowest(waiting) {
+            if !within(waiting, fresh) {
+                return done;
+            }
+            fresh = without(fresh, y);
+            above += 1;
+            path[above] = y as u8;
+        } else {
+            done = finish(i, a, by_i, down, done, x);
+            if above == 0 {
+                return done;
+            }
+            above -= 1;
         }
     }
 }
 
-// Sweeps until nothing more is done; gives the roles that are. The first goes from the highest role down, since juniors mostly have the
-// higher numbers, the next back up, and so on: a board numbered either way takes few of them.
+// Whether the live roles are in order: goes down from each that isn't done yet, until all are.
 fn order<'t>(
     live: u64,
     i: &'t [u64; 64],
     a: &'t [u64; 64],
     by_i: &mut [u64; 64],
     down: &mut [u64; 64],
-) -> u64
-    requires { ⌜ Right (now i) (now a) (now «by_i») (now down) 0 ⌝ }
+    path: &mut [u8; 64],
+) -> bool
+    requires { ⌜ SoFar live (now i) (now a) (now «by_i») (now down) (now path) 0 ⌝ }
     ensures { λ r. ⌜ Ordered live (now (i .entry)) (now (a .entry)) (now («by_i» .exit)) (now (down .exit)) r ⌝ }
 {
     let mut done: u64 = 0;
-    let mut left = live;
-    let mut top = true;
     loop {
-        let more = sweep(i, a, by_i, down, done, left, top);
-        let rest = minus(left, more);
-        if rest == left {
-            return more;
+        let Pick::Role(root) = lowest(minus(live, done)) else {
+            return true;
+        };
+        done = descend(live, i, a, by_i, down, path, done, root);
+        if !has(done, root) {
+            return false;
         }
-        done = more;
-        left = rest;
-        top = !top;
     }
 }
 
@@ -132,18 +146,28 @@ fn mark(up: &mut [u64; 64], s: u64, x: usize)
     }
 }
 
-// Settles the roles of a board from the juniors up, and gives the set of those that settle: all live roles, where there is no loop and
-// every junior lives. Row x of `down` becomes the set of what x derives, where x settles, else blank.
-pub fn fill_down<'t>(live: u64, i: &'t [u64; 64], a: &'t [u64; 64], down: &mut [u64; 64]) -> u64
-    ensures { λ r. ⌜ Settled (tables live (now (i .entry)) (now (a .entry))) r (now (down .exit)) ⌝ }
+// Settles the roles of a board from the juniors up: whether its live roles are in order, which is that there is no loop and every junior
+// of a live role lives. Row x of `down` becomes the set of what x derives; where there is no order all rows become blank.
+pub(crate) fn fill_down<'t>(
+    live: u64,
+    i: &'t [u64; 64],
+    a: &'t [u64; 64],
+    down: &mut [u64; 64],
+) -> bool
+    ensures { λ r. ⌜ FilledDown (tables live (now (i .entry)) (now (a .entry))) r (now (down .exit)) ⌝ }
 {
     let mut by_i = [0u64; 64];
+    let mut path = [0u8; 64];
     blank(down);
-    order(live, i, a, &mut by_i, down)
+    if !order(live, i, a, &mut by_i, down, &mut path) {
+        blank(down);
+        return false;
+    }
+    true
 }
 
 // Row y of `up` becomes the set of the live roles whose row in `down` has y: what derives y, where all live roles settle.
-pub fn fill_up(live: u64, down: &[u64; 64], up: &mut [u64; 64])
+pub(crate) fn fill_up(live: u64, down: &[u64; 64], up: &mut [u64; 64])
     ensures { λ _. ⌜ Turned live (now (down .entry)) (now (up .exit)) ⌝ }
 {
     blank(up);

@@ -1,13 +1,17 @@
--- Two outcomes that a contract of this crate allows coincide. (Of `board_apply` the board's own theorem says it.) Assumes nothing.
+-- Two outcomes that a contract of this crate allows coincide. (Of `board_apply` the board's own theorem says it, and `board_found`'s contract
+-- is two equations.) Assumes nothing.
 use mathlib.Core.Path.{_≡_, refl, sym, ap, ap₂, _∙_}
 use mathlib.Core.Bool.{Bool}
+use mathlib.Core.Logic.{dite}
 use mathlib.Core.List.{List}
 use Prim.Native.Nat.{ℕ, _+_, _*_}
+use native.Mathlib.Decide.{ℕ-discrete}
 use Rattle.sets.specs.Sets.{num}
+use Rattle.board.specs.declared.Board.{Board}
 use Rattle.board.specs.declared.Command.{Command}
 use Rattle.boardfile.specs.declared.commands.Place.{Place}
 use Rattle.boardfile.proofs.Settled as F
-use Rattle.host.specs.Answers.{answer, placeNumber, placeOf, Checked, DerivesPacked, ScopePacked, managerOr64, ManagerPacked, StepsPacked, StretchPacked, Commanded}
+use Rattle.host.specs.Answers.{answer, placeNumber, placeOf, placeOfWriting, Checked, DerivesPacked, ScopePacked, managerOr64, ManagerPacked, StepsPacked, StretchPacked, Commanded, ReadPacked, WritePacked}
 
 -- the same number and the same value make the same answer to a question
 asked : {m n v w r s : ℕ} → m ≡ n → v ≡ w → r ≡ answer m (placeOf m) v → s ≡ answer n (placeOf n) w → r ≡ s
@@ -41,3 +45,19 @@ pub commanded-unique : {f : List ℕ} {c : Command} {entry exit other : List ℕ
 commanded-unique p q =
     let k = F.command-unique (p .1 .1 .1) (q .1 .1 .1) in
     (k .3, p .1 .1 .2 ∙ ap₂ (λ (n l : ℕ). answer n (placeNumber (p .0)) l) (k .1) (k .2) ∙ ap (λ (z : Place). answer (q .1 .0) (placeNumber z) (q .1 .1 .0)) (k .0) ∙ sym (q .1 .1 .2))
+
+-- the answer, and the caller's board
+pub read-unique : {f : List ℕ} {entry exit other : Board} {r s : ℕ} → ReadPacked f entry exit r → ReadPacked f entry other s → (exit ≡ other) × (r ≡ s)
+read-unique {f} p q =
+    let e = F.check-unique f (p .0) (q .0) (p .1 .numbered) (q .1 .numbered) in (
+      dite (ℕ-discrete (p .0) 0)
+          (λ z. F.read-unique (p .1 .done z) (q .1 .done (sym e ∙ z)) .1)
+          (λ z. p .1 .refused z ∙ sym (q .1 .refused (λ w. z (e ∙ w)))),
+      asked {v = 0} e refl (p .2) (q .2),
+    )
+
+-- the answer, and every byte of the buffer
+pub write-unique : {b : Board} {entry exit other : List ℕ} {at r s : ℕ} → WritePacked b entry at exit r → WritePacked b entry at other s → (exit ≡ other) × (r ≡ s)
+write-unique p q =
+    let k = F.write-unique (p .1 .1) (q .1 .1) in
+    (k .2, p .1 .2 ∙ ap₂ (λ (n l : ℕ). answer n (placeOfWriting n) l) (k .0) (k .1) ∙ sym (q .1 .2))

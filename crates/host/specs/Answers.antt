@@ -7,12 +7,13 @@ use Prim.Native.Nat.{ℕ, _+_, _*_}
 use lib.Dec.{eqb}
 use Rattle.sets.specs.Sets.{num}
 use Rattle.hierarchy.specs.First.{First}
+use Rattle.board.specs.declared.Board.{Board}
 use Rattle.board.specs.declared.Command.{Command}
 use Rattle.board.specs.declared.questions.Manager.{Manager}
 use Rattle.board.specs.declared.questions.Manager.the-variants.{Role, Nobody}
 use Rattle.boardfile.specs.declared.commands.Place.{Place}
 use Rattle.boardfile.specs.declared.commands.Place.the-variants.{Asked, File, Writing}
-use Rattle.boardfile.specs.Answers.{refusals, DerivesOnFile, ScopeOnFile, ManagerOnFile, StepsOnFile, BoundsAnswer, CommandAnswer}
+use Rattle.boardfile.specs.Answers.{refusals, ReadInto, DerivesOnFile, ScopeOnFile, ManagerOnFile, StepsOnFile, BoundsAnswer, WriteAnswer, CommandAnswer}
 
 -- The number in bits 0 to 7, the place in bits 8 to 15, the value from bit 16 on.
 abbrev pub answer : ℕ → ℕ → ℕ → ℕ
@@ -27,6 +28,10 @@ placeNumber Writing = 2
 -- of a question, whose own refusals are 2 and 3
 unfoldable pub placeOf : ℕ → ℕ
 placeOf number = cond (eqb number 0 || (eqb number 2 || eqb number 3)) 0 1
+
+-- of a writing, whose own refusal is 12
+unfoldable pub placeOfWriting : ℕ → ℕ
+placeOfWriting number = cond (eqb number 12) 2 0
 
 -- ---- questions
 
@@ -64,3 +69,12 @@ StretchPacked f role r =
 abbrev pub Commanded : List ℕ → Command → List ℕ → List ℕ → ℕ → Type 0
 Commanded f c entry exit r =
     (place : Place) × ((number : ℕ) × ((len : ℕ) × CommandAnswer f c entry exit place number len × (r ≡ answer number (placeNumber place) len)))
+
+-- ---- the caller's own board: `entry` before the call and `exit` after it
+
+abbrev pub ReadPacked : List ℕ → Board → Board → ℕ → Type 0
+ReadPacked f entry exit r = (number : ℕ) × ReadInto f entry exit number × (r ≡ answer number (placeOf number) 0)
+
+-- its file in a buffer from a place on; the value is the file's length
+abbrev pub WritePacked : Board → List ℕ → ℕ → List ℕ → ℕ → Type 0
+WritePacked b entry at exit r = (number : ℕ) × ((len : ℕ) × WriteAnswer b entry at exit number len × (r ≡ answer number (placeOfWriting number) len))

@@ -2,7 +2,7 @@
 ghost use mathlib.Core.Path.{_≡_};
 ghost use Prim.Native.Nat.{_+_, _*_, _≤_};
 ghost use Rattle.sets.specs.Sets.{num};
-ghost use Rattle.host.specs.Answers.{answer, placeOf, placeNumber, managerOr64};
+ghost use Rattle.host.specs.Answers.{answer, placeOf, placeOfWriting, placeNumber, managerOr64};
 use board::questions::Manager;
 use boardfile::commands::Place;
 
@@ -37,6 +37,13 @@ pub(crate) fn place_of(number: u8) -> u8
         return ASKED;
     }
     FILE
+}
+
+// Where the number of a writing arose: want of room, 12, is its own; a board that isn't sound is refused as a command on it is.
+pub(crate) fn place_of_writing(number: u8) -> u8
+    ensures { λ r. ⌜ r ≡ placeOfWriting number ⌝ }
+{
+    if number == 12 { WRITING } else { ASKED }
 }
 
 pub(crate) fn place_number(place: Place) -> u8

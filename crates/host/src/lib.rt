@@ -4,18 +4,23 @@
 // the pointers are good.
 mod answers;
 
+ghost use mathlib.Core.Path.{_≡_};
+ghost use Rattle.board.specs.Boards.{boardOf, foundingBoard};
 ghost use Rattle.board.specs.Commands.{Decided};
-ghost use Rattle.host.specs.Answers.{Checked, DerivesPacked, ScopePacked, ManagerPacked, StepsPacked, StretchPacked, Commanded};
+ghost use Rattle.host.specs.Answers.{Checked, DerivesPacked, ScopePacked, ManagerPacked, StepsPacked, StretchPacked, Commanded, ReadPacked, WritePacked};
 use answers::manager_value;
 use answers::one_if;
 use answers::packed;
 use answers::place_number;
 use answers::place_of;
+use answers::place_of_writing;
 use answers::scope_value;
 use board::Board;
 use board::Command;
-use board::lent::apply;
+use board::lent::apply_in_place;
 use boardfile::commands::command;
+use boardfile::lent::read_into;
+use boardfile::lent::write_of;
 use boardfile::questions::check;
 use boardfile::questions::derives;
 use boardfile::questions::line_manager;
@@ -23,12 +28,87 @@ use boardfile::questions::scope;
 use boardfile::questions::steps;
 use boardfile::stretches::bounds;
 
+// The founding board, over the caller's own.
+#[no_mangle]
+pub extern "C" fn board_found(b: &mut Board) -> u64
+    ensures { λ r. ⌜ (r ≡ 0) × (now (b .exit) ≡ foundingBoard) ⌝ }
+{
+    *b = Board::founding();
+    0
+}
+
+// The board of a file, over the caller's own; a refusal leaves the board as it was.
+#[no_mangle]
+pub extern "C" fn board_read(file: &[u8], b: &mut Board) -> u64
+    ensures { λ r. ⌜ ReadPacked (now (file .entry)) (now (b .entry)) (now (b .exit)) r ⌝ }
+{
+    read_packed(
+        file,
+        &mut b.live,
+        &mut b.i,
+        &mut b.a,
+        &mut b.derives,
+        &mut b.derivers,
+        &mut b.manager,
+    )
+}
+
+// The same over a board that is lent field by field.
+fn read_packed(
+    file: &[u8],
+    live: &mut u64,
+    i: &mut [u64; 64],
+    a: &mut [u64; 64],
+    derives: &mut [u64; 64],
+    derivers: &mut [u64; 64],
+    manager: &mut [u8; 64],
+) -> u64
+    ensures { λ r. ⌜ ReadPacked (now (file .entry)) (boardOf (now (live .entry)) (now (i .entry)) (now (a .entry)) (now (derives .entry)) (now (derivers .entry)) (now (manager .entry))) (boardOf (now (live .exit)) (now (i .exit)) (now (a .exit)) (now (derives .exit)) (now (derivers .exit)) (now (manager .exit))) r ⌝ }
+{
+    let q = read_into(file, live, i, a, derives, derivers, manager);
+    packed(q, place_of(q), 0)
+}
+
 // One command on the caller's own board. Place and value are 0, so the answer is the number.
 #[no_mangle]
 pub extern "C" fn board_apply(b: &mut Board, c: &Command) -> u64
     ensures { λ r. ⌜ Decided (now (b .entry)) (now (c .entry)) r (now (b .exit)) ⌝ }
 {
-    apply(b, *c) as u64
+    apply_in_place(b, *c) as u64
+}
+
+// The file of the caller's board, into `out` from place `at` on; the value is its length.
+#[no_mangle]
+pub extern "C" fn board_write(b: &Board, out: &mut [u8], at: usize) -> u64
+    ensures { λ r. ⌜ WritePacked (now (b .entry)) (now (out .entry)) at (now (out .exit)) r ⌝ }
+{
+    write_packed(
+        b.live,
+        &b.i,
+        &b.a,
+        &b.derives,
+        &b.derivers,
+        &b.manager,
+        out,
+        at,
+    )
+}
+
+// The same of a board that is lent field by field.
+fn write_packed<'t>(
+    live: u64,
+    i: &'t [u64; 64],
+    a: &'t [u64; 64],
+    derives: &'t [u64; 64],
+    derivers: &'t [u64; 64],
+    manager: &'t [u8; 64],
+    out: &mut [u8],
+    at: usize,
+) -> u64
+    ensures { λ r. ⌜ WritePacked (boardOf live (now (i .entry)) (now (a .entry)) (now (derives .entry)) (now (derivers .entry)) (now (manager .entry))) (now (out .entry)) at (now (out .exit)) r ⌝ }
+{
+    let q = write_of(live, i, a, derives, derivers, manager, out, at);
+    packed(q.number, place_of_writing(q.number), q.len as u16)
 }
 
 // One command on the board in a file; done leaves the new file at the start of `out`.

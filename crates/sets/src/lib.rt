@@ -41,6 +41,13 @@ pub fn union(s: u64, t: u64) -> u64
     s | t
 }
 
+// The roles of s that are in t too.
+pub fn common(s: u64, t: u64) -> u64
+    ensures { λ y. ⌜ ((x : ℕ) → bit y x ≡ (bit s x && bit t x)) ⌝ }
+{
+    s & t
+}
+
 // The roles of s that are not in t.
 pub fn minus(s: u64, t: u64) -> u64
     ensures { λ y. ⌜ ((x : ℕ) → bit y x ≡ (bit s x && not (bit t x))) ⌝ }

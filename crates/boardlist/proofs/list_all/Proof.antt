@@ -6,10 +6,10 @@ use Rattle.boardlist.proofs.list_all.Statement.{statement}
 use Rattle.boardlist.proofs.list_all.Tie as tie
 
 abbrev Inv-loop : tie.InvT-loop
-Inv-loop b rest₀ rest = Unit {0}
+Inv-loop live manager rest₀ rest = Unit {0}
 
 abbrev μ-loop : tie.MeasureT-loop
-μ-loop b rest₀ rest = ones rest
+μ-loop live manager rest₀ rest = ones rest
 
 loop-holds : tie.Need-loop-holds Inv-loop μ-loop
 loop-holds c = tt

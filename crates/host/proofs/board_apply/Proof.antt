@@ -1,5 +1,5 @@
 -- `host::board_apply` meets its contract: a walk of its MIR, by hand. The command is copied from behind its borrow, which is looked into
--- and shut again, and the caller's board is handed on to `board::lent::apply` for good, at its own lifetime. The number is made wider.
+-- and shut again, and the caller's board is handed on to `board::lent::apply_in_place` for good, at its own lifetime. The number is made wider.
 -- All that the proof knows of `apply` is that it meets its contract. Assumes nothing.
 use mathlib.Core.Path.{refl, ap}
 use Prim.Native.Nat.{ℕ, _<_, _^_}
@@ -44,10 +44,10 @@ use Rattle.board.proofs.Values.{ofCommand}
 use Rattle.board.proofs.Board as B
 use Rattle.board.proofs.Command as Cm
 use Rattle.board.proofs.Command.Laws as Cm′
-use Rattle.board.proofs.lent.apply as apply
-use Rattle.board.proofs.lent.apply.Symbol as apply-def
-use Rattle.board.proofs.lent.apply.Symbol.{name as #apply}
-use Rattle.board.proofs.lent.apply.Met as apply-thm
+use Rattle.board.proofs.lent.apply_in_place as apply
+use Rattle.board.proofs.lent.apply_in_place.Symbol as apply-def
+use Rattle.board.proofs.lent.apply_in_place.Symbol.{name as #apply}
+use Rattle.board.proofs.lent.apply_in_place.Met as apply-thm
 use Rattle.host.proofs.board_apply.Key.{name as #board-apply}
 use Rattle.host.proofs.board_apply as board-apply
 use Rattle.host.proofs.board_apply.Statement as stated
@@ -132,7 +132,7 @@ board-apply-spec 𝓤 H 𝓜 𝓖 𝓡 =
     let 𝓣 = tablesOf 𝓤 H 𝓜 (tables 𝓤 H 𝓜 𝓡 code.env) in
     let clauses = board-apply.clauses 𝓤 H (𝓖 .A) (𝓜 .mem) (𝓡 .run) in
     let body = WpFn 𝓤 H (𝓣 .C) (𝓣 .Λ) code.function in
-    let known = cited 𝓤 H (Apply 𝓤 H (𝓖 .A) (𝓜 .mem) (𝓡 .run)) 𝓜 𝓡 code.env #apply apply-def.routine code.calls-board·lent·apply (apply-thm.met 𝓤 H 𝓜 𝓖 𝓡) in
+    let known = cited 𝓤 H (Apply 𝓤 H (𝓖 .A) (𝓜 .mem) (𝓡 .run)) 𝓜 𝓡 code.env #apply apply-def.routine code.calls-board·lent·apply-in-place (apply-thm.met 𝓤 H 𝓜 𝓖 𝓡) in
     entered 𝓤 H (tripleOf 𝓤 H (𝓖 .A) board-apply.signature (board-apply.spec 𝓤 H (𝓖 .A) (𝓜 .mem) (𝓡 .run)))
     (𝓣 .C) (𝓣 .Λ) #board-apply code.function (code.unfolded 𝓤 H 𝓜 𝓡)
     (walk-meets 𝓤 H (𝓖 .A) board-apply.ended stayed W

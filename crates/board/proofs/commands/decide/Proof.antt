@@ -1,46 +1,52 @@
+use mathlib.Core.Path.{refl}
 use Prim.Native.Nat.{ℕ}
-use native.Mathlib.Omega.{arith}
-use mir.Syntax.{w64}
-use mir.Val.{Fits}
-use Rattle.hierarchy.specs.Tables.{row}
 use Rattle.hierarchy.specs.Views.{ScopeBy}
 use Rattle.board.specs.Boards.{boardOf}
 use Rattle.board.specs.declared.Board.{Board}
+use Rattle.board.proofs.SoundAfter.{whole-after}
 use Rattle.board.proofs.Trying.{decided-early, decided-late, decided-done}
 use borrow.Author.Needs.{needs}
 use Rattle.board.proofs.commands.decide.Statement.{statement}
 use Rattle.board.proofs.commands.decide.Tie as tie
 
+abbrev board : tie.Start → Board
+board s = boardOf (s .args .live .now) (s .args .i .now) (s .args .a .now) (s .args .derives .now) (s .args .derivers .now) (s .args .manager .now)
+
+abbrev In : tie.Start → ℕ → ℕ → Type 0
+In s = ScopeBy (s .args .derives .now) (s .args .derivers .now)
+
 refused-before-requires : tie.Need-refused-before-requires
 refused-before-requires c κs = search needs
 
-abbrev board : tie.Start → Board
-board s = boardOf (s .args .live) (s .args .i .now) (s .args .a .now)
-
-abbrev In : tie.Start → ℕ → ℕ → Type 0
-In s = ScopeBy (s .args .down .now) (s .args .up .now)
-
 returns : tie.Need-returns
-returns c = decided-early (In (c .before .before .before .before)) (board (c .before .before .before .before)) (c .before .before .before .before .args .c) (c .before .before .before .refused-before .result) (c .if1 .taken) (c .before .before .before .refused-before .ensures)
+returns c =
+    let s = c .before .before .before .before .before .before .before in
+    decided-early (In s) (board s) (s .args .c) _ (c .if1 .taken) (c .before .refused-before .ensures) _ refl
 
-after-requires : tie.Need-after-requires
-after-requires c κs = search needs
+whole-requires : tie.Need-whole-requires
+whole-requires c κs = search needs
+
+whole-requires-2 : tie.Need-whole-requires-2
+whole-requires-2 c κs = search needs
+
+change-requires : tie.Need-change-requires
+change-requires c κs = search needs
 
 refused-after-requires : tie.Need-refused-after-requires
-refused-after-requires c κs = (
-  record { rows = search needs; fits = λ x. let f : Fits w64 (row (c .before .before .before .after .result .i) x) = search needs in omega arith },
-  record { rows = search needs; fits = λ x. let f : Fits w64 (row (c .before .before .before .after .result .a) x) = search needs in omega arith },
-)
+refused-after-requires c κs = whole-after _ _ (c .before .before .before .before .before .change .ensures)
 
 returns-2 : tie.Need-returns-2
 returns-2 c =
-    let passed = c .before .before .before .before .before .before .before .before .before .refused-before .ensures in
-    decided-late (In (c .before .before .before .before .before .before .before .before .before .before)) (board (c .before .before .before .before .before .before .before .before .before .before)) (c .before .before .before .before .before .before .before .before .before .before .args .c) (c .before .before .before .before .before .before .before .before .before .refused-before .result) (c .before .before .before .before .before .before .if1 .left) passed (c .before .before .before .before .before .after .result) (c .before .before .before .before .before .after .ensures) (c .before .refused-after .result) (c .if2 .taken) (c .before .refused-after .ensures)
+    let s = c .before .before .before .before .before .before .before .before .before .before .before .before .before .before .before .before .before .before .before .before .before .before .before in
+    decided-late (In s) (board s) (s .args .c) _ (c .before .before .before .before .before .before .before .before .before .before .before .before .before .before .before .before .if1 .left) (c .before .before .before .before .before .before .before .before .before .before .before .before .before .before .before .before .before .refused-before .ensures) _ (c .before .before .before .before .before .before .before .change .ensures)
+    _ (c .if2 .taken) (c .before .refused-after .ensures .numbered) _ refl
 
 returns-3 : tie.Need-returns-3
 returns-3 c =
-    let passed = c .before .before .before .before .before .before .before .before .before .refused-before .ensures in
-    decided-done (In (c .before .before .before .before .before .before .before .before .before .before)) (board (c .before .before .before .before .before .before .before .before .before .before)) (c .before .before .before .before .before .before .before .before .before .before .args .c) (c .before .before .before .before .before .before .before .before .before .refused-before .result) (c .before .before .before .before .before .before .if1 .left) passed (c .before .before .before .before .before .after .result) (c .before .before .before .before .before .after .ensures) (c .before .refused-after .result) (c .if2 .left) (c .before .refused-after .ensures)
+    let s = c .before .before .before .before .before .before .before .before .before .before .before .before .before .before .before .before .before .before .before .before .before .before .before in
+    let late = c .before .refused-after .ensures in
+    decided-done (In s) (board s) (s .args .c) _ (c .before .before .before .before .before .before .before .before .before .before .before .before .before .before .before .before .if1 .left) (c .before .before .before .before .before .before .before .before .before .before .before .before .before .before .before .before .before .refused-before .ensures) _ (c .before .before .before .before .before .before .before .change .ensures)
+    _ (c .if2 .left) (late .numbered) _ refl (late .right (c .if2 .left))
 
 pub decide-spec : {M : Type 1} → statement M
 decide-spec =
@@ -48,7 +54,9 @@ decide-spec =
     (tie.spec
     refused-before-requires
     returns
-    after-requires
+    whole-requires
+    whole-requires-2
+    change-requires
     refused-after-requires
     returns-2
     returns-3)

@@ -2,9 +2,8 @@ use mathlib.Core.Path.{_≡_}
 use mathlib.Core.Bool.{true}
 use mathlib.Core.Logic.{_↔_, _≢_, Iff·trans}
 use Rattle.hierarchy.specs.Views.{ScopeBy}
-use Rattle.board.specs.Boards.{boardOf}
+use Rattle.hierarchy.specs.Tables.{Tables, tables}
 use Rattle.board.specs.Commands.{Malformed, Missing, edgeKind, Standing, NoEdge, InScope}
-use Rattle.board.specs.declared.Board.{Board}
 use Rattle.board.proofs.Looking.{holds, fails}
 use Rattle.board.proofs.Trying.{missing-row, edge-row, standing-row, no-edge-row, in-scope-alike, refused-2, refused-3, refused-4, refused-5, refused-6, refused-not}
 use borrow.Author.Needs.{needs}
@@ -14,10 +13,10 @@ use Rattle.board.proofs.commands.refused_before.Tie as tie
 malformed-requires : tie.Need-malformed-requires
 malformed-requires c κs = search needs
 
--- the board, and what is known past each row
+-- the tables, and what is known past each row
 
-abbrev board : tie.Start → Board
-board s = boardOf (s .args .live) (s .args .i .now) (s .args .a .now)
+abbrev board : tie.Start → Tables
+board s = tables (s .args .live) (s .args .i .now) (s .args .a .now)
 
 formed-at : (c : tie.Else1) → Malformed (c .before .before .args .c) → ⊥
 formed-at c = fails (c .before .malformed .ensures) (c .if1 .left)

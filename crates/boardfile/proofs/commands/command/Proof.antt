@@ -1,9 +1,10 @@
 use mathlib.Core.Path.{refl}
 use Rattle.board.specs.Boards.{boardOf}
 use Rattle.board.specs.Commands.{Decided}
+use Rattle.board.specs.declared.Board.{Board}
 use Rattle.board.proofs.Viewing.{decided-viewed}
 use Rattle.boardfile.specs.Answers.{CommandAnswer.unread, CommandAnswer.refused}
-use Rattle.boardfile.proofs.Readings.{viewed, read-refused, read-done}
+use Rattle.boardfile.proofs.Readings.{sound, read-refused, read-done}
 use Rattle.boardfile.proofs.Commanding.{wanting, finished}
 use borrow.Author.Needs.{needs}
 use Rattle.boardfile.proofs.commands.command.Statement.{statement}
@@ -12,8 +13,15 @@ use Rattle.boardfile.proofs.commands.command.Tie as tie
 open-requires : tie.Need-open-requires
 open-requires c κs = search needs
 
-decided : (c : tie.After-decide) → Decided (boardOf (c .before .before .before .before .before .before .before .«open» .result .live) (c .before .before .before .before .before .before .before .«open» .last .1 .0) (c .before .before .before .before .before .before .before .«open» .last .1 .1 .0)) (c .before .before .before .before .before .before .before .before .before .before .before .before .before .before .args .c) (c .decide .result .number) (c .decide .result .board)
-decided c = decided-viewed (viewed (c .before .before .before .before .before .before .before .«open» .ensures) (c .before .before .before .before .before .if1 .left)) (c .decide .ensures)
+-- the board of the file, and what the command left of it
+abbrev opened : tie.After-decide → Board
+opened c = let o = c .before .before .before .before .before .before .before .before .before .«open» in boardOf (o .result .live) (o .last .1 .0) (o .last .1 .1 .0) (o .last .1 .1 .1 .0) (o .last .1 .1 .1 .1 .0) (o .last .1 .1 .1 .1 .1 .0)
+
+abbrev next : tie.After-decide → Board
+next c = let d = c .decide in boardOf (d .last .0) (d .last .1 .0) (d .last .1 .1 .0) (d .last .1 .1 .1 .0) (d .last .1 .1 .1 .1 .0) (d .last .1 .1 .1 .1 .1 .0)
+
+decided : (c : tie.After-decide) → Decided (opened c) (c .before .before .before .before .before .before .before .before .before .before .before .before .before .before .before .before .before .args .c) (c .decide .result) (next c)
+decided c = decided-viewed (sound (c .before .before .before .before .before .before .before .before .before .«open» .ensures) (c .before .before .before .before .before .before .before .if1 .left)) (c .decide .ensures)
 
 returns : tie.Need-returns
 returns c = unread (read-refused (c .before .before .«open» .ensures) (c .if1 .taken)) (c .if1 .taken) refl
@@ -22,7 +30,7 @@ decide-requires : tie.Need-decide-requires
 decide-requires c κs = search needs
 
 returns-2 : tie.Need-returns-2
-returns-2 c = refused (read-done (c .before .before .before .before .before .before .before .before .before .«open» .ensures) (c .before .before .before .before .before .before .before .if1 .left)) (decided (c .before .before)) (c .if2 .taken) refl
+returns-2 c = refused (read-done (c .before .before .before .before .before .before .before .before .before .before .«open» .ensures) (c .before .before .before .before .before .before .before .before .if1 .left)) (decided (c .before)) (c .if2 .taken) refl
 
 put-requires : tie.Need-put-requires
 put-requires c κs = search needs
@@ -31,13 +39,13 @@ same-length : tie.Need-same-length
 same-length c = search needs
 
 returns-3 : tie.Need-returns-3
-returns-3 c = wanting (read-done (c .before .before .before .before .before .before .before .before .before .before .before .before .before .before .before .before .before .before .before .«open» .ensures) (c .before .before .before .before .before .before .before .before .before .before .before .before .before .before .before .before .before .if1 .left)) (decided (c .before .before .before .before .before .before .before .before .before .before .before .before)) (c .before .before .before .before .before .before .before .before .before .before .if2 .left) (c .before .before .before .before .put .ensures) (c .if3 .taken)
+returns-3 c = wanting (read-done (c .before .before .before .before .before .before .before .before .before .before .before .before .before .before .before .before .before .before .«open» .ensures) (c .before .before .before .before .before .before .before .before .before .before .before .before .before .before .before .before .if1 .left)) (decided (c .before .before .before .before .before .before .before .before .before)) (c .before .before .before .before .before .before .before .before .if2 .left) (c .before .before .before .before .put .ensures) (c .if3 .taken)
 
 same-length-2 : tie.Need-same-length-2
 same-length-2 c = search needs
 
 returns-4 : tie.Need-returns-4
-returns-4 c = finished (read-done (c .before .before .before .before .before .before .before .before .before .before .before .before .before .before .before .before .before .before .before .«open» .ensures) (c .before .before .before .before .before .before .before .before .before .before .before .before .before .before .before .before .before .if1 .left)) (decided (c .before .before .before .before .before .before .before .before .before .before .before .before)) (c .before .before .before .before .before .before .before .before .before .before .if2 .left) (c .before .before .before .before .put .ensures) (c .if3 .left)
+returns-4 c = finished (read-done (c .before .before .before .before .before .before .before .before .before .before .before .before .before .before .before .before .before .before .«open» .ensures) (c .before .before .before .before .before .before .before .before .before .before .before .before .before .before .before .before .if1 .left)) (decided (c .before .before .before .before .before .before .before .before .before)) (c .before .before .before .before .before .before .before .before .if2 .left) (c .before .before .before .before .put .ensures) (c .if3 .left)
 
 pub command-spec : {M : Type 1} → statement M
 command-spec =

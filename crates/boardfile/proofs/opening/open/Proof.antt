@@ -3,7 +3,7 @@ use mathlib.Core.Bool.{Bool, true}
 use native.Mathlib.Omega.{arith}
 use borrow.Author.Tests.{not-true, not-false}
 use Rattle.boardfile.specs.Parts.{Framing, GoodFrame, Listing, GoodRoles, Entering}
-use Rattle.boardfile.proofs.Readings.{refused-frame, refused-record, opened-7, opened-9, opened}
+use Rattle.boardfile.proofs.Readings.{refused-frame, refused-record, opened-not, opened}
 use borrow.Author.Needs.{needs}
 use Rattle.boardfile.proofs.opening.open.Statement.{statement}
 use Rattle.boardfile.proofs.opening.open.Tie as tie
@@ -61,29 +61,17 @@ refused-requires-3 c κs = search needs
 returns-3 : tie.Need-returns-3
 returns-3 c = refused-record (good-frame (c .before .before .before .before .before .before .before .before .before) .faultless) (subst (Told (c .before .before)) (not-true (c .before .before .edges .result) (c .before .if1 .taken)) (c .before .before .edges .ensures)) (c .refused3 .ensures)
 
-fill-down-requires : tie.Need-fill-down-requires
-fill-down-requires c κs = search needs
+work-out-requires : tie.Need-work-out-requires
+work-out-requires c κs = search needs
 
 refused-requires-4 : tie.Need-refused-requires-4
 refused-requires-4 c κs = search needs
 
 returns-4 : tie.Need-returns-4
-returns-4 c = opened-7 (good-frame (c .before .before .before .before .before .before .before .before .before .before .before .before .before .before)) (good-roles (c .before .before .before .before .before .before .before .before .before .before)) (good-edges (c .before .before .before .before .before .before)) (c .before .before .fill-down .ensures) (c .before .if2 .taken) (c .refused4 .ensures)
-
-fill-up-requires : tie.Need-fill-up-requires
-fill-up-requires c κs = search needs
-
-managed-requires : tie.Need-managed-requires
-managed-requires c κs = search needs
-
-refused-requires-5 : tie.Need-refused-requires-5
-refused-requires-5 c κs = search needs
+returns-4 c = opened-not (good-frame (c .before .before .before .before .before .before .before .before .before .before .before .before .before .before .before .before)) (good-roles (c .before .before .before .before .before .before .before .before .before .before .before .before)) (good-edges (c .before .before .before .before .before .before .before .before)) (c .before .before .work-out .ensures) (c .before .if2 .taken) (c .refused4 .ensures)
 
 returns-5 : tie.Need-returns-5
-returns-5 c = opened-9 (good-frame (c .before .before .before .before .before .before .before .before .before .before .before .before .before .before .before .before .before .before .before .before .before)) (good-roles (c .before .before .before .before .before .before .before .before .before .before .before .before .before .before .before .before .before)) (good-edges (c .before .before .before .before .before .before .before .before .before .before .before .before .before)) (c .before .before .before .before .before .before .before .before .before .fill-down .ensures) (c .before .before .before .before .before .before .before .before .if2 .left) (c .before .before .before .before .before .fill-up .ensures) (c .before .before .managed .ensures) (not-true _ (c .before .if3 .taken)) (c .refused5 .ensures)
-
-returns-6 : tie.Need-returns-6
-returns-6 c = opened (good-frame (c .before .before .before .before .before .before .before .before .before .before .before .before .before .before .before .before .before .before .before .before)) (good-roles (c .before .before .before .before .before .before .before .before .before .before .before .before .before .before .before .before)) (good-edges (c .before .before .before .before .before .before .before .before .before .before .before .before)) (c .before .before .before .before .before .before .before .before .fill-down .ensures) (c .before .before .before .before .before .before .before .if2 .left) (c .before .before .before .before .fill-up .ensures) (c .before .managed .ensures) (not-false _ (c .if3 .left))
+returns-5 c = opened (good-frame (c .before .before .before .before .before .before .before .before .before .before .before .before .before .before .before)) (good-roles (c .before .before .before .before .before .before .before .before .before .before .before)) (good-edges (c .before .before .before .before .before .before .before)) (c .before .work-out .ensures) (c .if2 .left)
 
 pub open-spec : {M : Type 1} → statement M
 open-spec =
@@ -102,11 +90,7 @@ open-spec =
     edges-requires
     refused-requires-3
     returns-3
-    fill-down-requires
+    work-out-requires
     refused-requires-4
     returns-4
-    fill-up-requires
-    managed-requires
-    refused-requires-5
-    returns-5
-    returns-6)
+    returns-5)

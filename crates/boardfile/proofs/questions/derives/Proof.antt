@@ -1,7 +1,7 @@
 use Rattle.board.proofs.Asking.{answer-refused}
 use Rattle.board.proofs.Viewing.{derives-viewed}
 use Rattle.boardfile.proofs.Asking.{asked-refused, on-file}
-use Rattle.boardfile.proofs.Readings.{viewed, read-done}
+use Rattle.boardfile.proofs.Readings.{sound, read-done}
 use borrow.Author.Needs.{needs}
 use Rattle.boardfile.proofs.questions.derives.Statement.{statement}
 use Rattle.boardfile.proofs.questions.derives.Tie as tie
@@ -16,7 +16,7 @@ derives-by-requires : tie.Need-derives-by-requires
 derives-by-requires c κs = search needs
 
 returns-2 : tie.Need-returns-2
-returns-2 c = on-file (read-done (c .before .before .before .before .«open» .ensures) (c .before .before .if1 .left)) _ _ (derives-viewed (viewed (c .before .before .before .before .«open» .ensures) (c .before .before .if1 .left)) _ _ (c .derives-by .ensures))
+returns-2 c = on-file (read-done (c .before .before .before .before .«open» .ensures) (c .before .before .if1 .left)) _ _ (derives-viewed (sound (c .before .before .before .before .«open» .ensures) (c .before .before .if1 .left)) _ _ (c .derives-by .ensures))
 
 pub derives-spec : {M : Type 1} → statement M
 derives-spec = tie.close (tie.spec open-requires returns derives-by-requires returns-2)

@@ -1,7 +1,7 @@
 use Rattle.board.proofs.Asking.{answer-refused}
 use Rattle.board.proofs.Viewing.{scope-viewed}
 use Rattle.boardfile.proofs.Asking.{asked-refused, on-file}
-use Rattle.boardfile.proofs.Readings.{viewed, read-done}
+use Rattle.boardfile.proofs.Readings.{sound, read-done}
 use borrow.Author.Needs.{needs}
 use Rattle.boardfile.proofs.questions.scope.Statement.{statement}
 use Rattle.boardfile.proofs.questions.scope.Tie as tie
@@ -16,7 +16,7 @@ scope-by-requires : tie.Need-scope-by-requires
 scope-by-requires c κs = search needs
 
 returns-2 : tie.Need-returns-2
-returns-2 c = on-file (read-done (c .before .before .before .before .before .«open» .ensures) (c .before .before .before .if1 .left)) _ _ (scope-viewed (viewed (c .before .before .before .before .before .«open» .ensures) (c .before .before .before .if1 .left)) _ _ (c .scope-by .ensures))
+returns-2 c = on-file (read-done (c .before .before .before .before .before .«open» .ensures) (c .before .before .before .if1 .left)) _ _ (scope-viewed (sound (c .before .before .before .before .before .«open» .ensures) (c .before .before .before .if1 .left)) _ _ (c .scope-by .ensures))
 
 pub scope-spec : {M : Type 1} → statement M
 scope-spec = tie.close (tie.spec open-requires returns scope-by-requires returns-2)

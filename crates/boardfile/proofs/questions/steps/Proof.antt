@@ -1,7 +1,7 @@
 use Rattle.board.proofs.Asking.{answer-refused}
 use Rattle.board.proofs.Viewing.{steps-viewed}
 use Rattle.boardfile.proofs.Asking.{asked-refused, on-file}
-use Rattle.boardfile.proofs.Readings.{viewed, read-done}
+use Rattle.boardfile.proofs.Readings.{sound, read-done}
 use borrow.Author.Needs.{needs}
 use Rattle.boardfile.proofs.questions.steps.Statement.{statement}
 use Rattle.boardfile.proofs.questions.steps.Tie as tie
@@ -16,7 +16,7 @@ steps-by-requires : tie.Need-steps-by-requires
 steps-by-requires c κs = search needs
 
 returns-2 : tie.Need-returns-2
-returns-2 c = on-file (read-done (c .before .before .before .before .before .«open» .ensures) (c .before .before .before .if1 .left)) _ _ (steps-viewed (viewed (c .before .before .before .before .before .«open» .ensures) (c .before .before .before .if1 .left)) _ (c .steps-by .ensures))
+returns-2 c = on-file (read-done (c .before .before .before .before .«open» .ensures) (c .before .before .if1 .left)) _ _ (steps-viewed (sound (c .before .before .before .before .«open» .ensures) (c .before .before .if1 .left)) _ (c .steps-by .ensures))
 
 pub steps-spec : {M : Type 1} → statement M
 steps-spec = tie.close (tie.spec open-requires returns steps-by-requires returns-2)

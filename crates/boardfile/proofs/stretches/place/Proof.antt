@@ -1,8 +1,7 @@
 use mathlib.Core.Path.{sym, _∙_}
 use native.Mathlib.Omega.{arith}
 use borrow.Author.Tests.{not-true, not-false}
-use Rattle.board.specs.Boards.{boardOf}
-use Rattle.board.specs.declared.Board.{Board}
+use Rattle.hierarchy.specs.Tables.{Tables, tables}
 use Rattle.boardfile.proofs.InThree.{up-to-it}
 use Rattle.boardfile.specs.Parts.{PlaceAnswer}
 use Rattle.boardfile.proofs.Places.{spanned, too-high, not-live, no-records, some-records}
@@ -10,14 +9,14 @@ use borrow.Author.Needs.{needs}
 use Rattle.boardfile.proofs.stretches.place.Statement.{statement}
 use Rattle.boardfile.proofs.stretches.place.Tie as tie
 
-abbrev board : tie.Start → Board
-board s = boardOf (s .args .live) (s .args .i .now) (s .args .a .now)
+abbrev given : tie.Start → Tables
+given s = tables (s .args .live) (s .args .i .now) (s .args .a .now)
 
 nothing-requires : tie.Need-nothing-requires
 nothing-requires c κs = search needs
 
 returns : tie.Need-returns
-returns c = spanned (PlaceAnswer (board (c .before .before)) (c .before .before .args .role)) (c .nothing .ensures) (too-high (board (c .before .before)) (c .before .before .args .role) (c .before .if1 .taken))
+returns c = spanned (PlaceAnswer (given (c .before .before)) (c .before .before .args .role)) (c .nothing .ensures) (too-high (given (c .before .before)) (c .before .before .args .role) (c .before .if1 .taken))
 
 has-requires : tie.Need-has-requires
 has-requires c κs = search needs
@@ -26,7 +25,7 @@ nothing-requires-2 : tie.Need-nothing-requires-2
 nothing-requires-2 c κs = search needs
 
 returns-2 : tie.Need-returns-2
-returns-2 c = spanned (PlaceAnswer (board (c .before .before .before .before)) (c .before .before .before .before .args .role)) (c .nothing2 .ensures) (not-live (board (c .before .before .before .before)) (c .before .before .before .before .args .role) (c .before .before .before .if1 .left) (sym (c .before .before .has .ensures) ∙ not-true _ (c .before .if2 .taken)))
+returns-2 c = spanned (PlaceAnswer (given (c .before .before .before .before)) (c .before .before .before .before .args .role)) (c .nothing2 .ensures) (not-live (given (c .before .before .before .before)) (c .before .before .before .before .args .role) (c .before .before .before .if1 .left) (sym (c .before .before .has .ensures) ∙ not-true _ (c .before .if2 .taken)))
 
 start-of-requires : tie.Need-start-of-requires
 start-of-requires c κs = search needs
@@ -38,18 +37,18 @@ start-of-requires-2 : tie.Need-start-of-requires-2
 start-of-requires-2 c κs = search needs
 
 sub-len : tie.Need-sub-len
-sub-len c = omega (arith, c .before .start-of .ensures, c .start-of2 .ensures, up-to-it (board (c .before .before .before .before .before)) (c .before .before .before .before .before .args .role) (omega arith))
+sub-len c = omega (arith, c .before .start-of .ensures, c .start-of2 .ensures, up-to-it (given (c .before .before .before .before .before)) (c .before .before .before .before .before .args .role) (omega arith))
 
 nothing-requires-3 : tie.Need-nothing-requires-3
 nothing-requires-3 c κs = search needs
 
 returns-3 : tie.Need-returns-3
 returns-3 c = let d = c .before in
-    spanned (PlaceAnswer (board (d .before .before .before .before .before .before)) (d .before .before .before .before .before .before .args .role)) (c .nothing3 .ensures) (no-records (board (d .before .before .before .before .before .before)) (d .before .before .before .before .before .before .args .role) (d .before .before .before .before .before .if1 .left) (sym (d .before .before .before .before .has .ensures) ∙ not-false _ (d .before .before .before .if2 .left))
+    spanned (PlaceAnswer (given (d .before .before .before .before .before .before)) (d .before .before .before .before .before .before .args .role)) (c .nothing3 .ensures) (no-records (given (d .before .before .before .before .before .before)) (d .before .before .before .before .before .before .args .role) (d .before .before .before .before .before .if1 .left) (sym (d .before .before .before .before .has .ensures) ∙ not-false _ (d .before .before .before .if2 .left))
     (d .before .before .start-of .result) (d .before .start-of2 .result) (d .before .before .start-of .ensures) (d .before .start-of2 .ensures) (d .if3 .taken))
 
 returns-4 : tie.Need-returns-4
-returns-4 c = some-records (board (c .before .before .before .before .before .before)) (c .before .before .before .before .before .before .args .role) (c .before .before .before .before .before .if1 .left) (sym (c .before .before .before .before .has .ensures) ∙ not-false _ (c .before .before .before .if2 .left))
+returns-4 c = some-records (given (c .before .before .before .before .before .before)) (c .before .before .before .before .before .before .args .role) (c .before .before .before .before .before .if1 .left) (sym (c .before .before .before .before .has .ensures) ∙ not-false _ (c .before .before .before .if2 .left))
     (c .before .before .start-of .result) (c .before .start-of2 .result) (c .before .before .start-of .ensures) (c .before .start-of2 .ensures) (c .if3 .left)
 
 pub place-spec : {M : Type 1} → statement M

@@ -4,9 +4,7 @@ use Prim.Native.Nat.{ℕ, _+_, _-_, _*_, _≤_, _<_}
 use native.Mathlib.Omega.{arith}
 use lib.ListN.{length}
 use borrow.Author.Tests.{ltb-true, ltb-false}
-use Rattle.hierarchy.specs.Tables.{kind}
-use Rattle.board.specs.Boards.{tablesOf, boardOf}
-use Rattle.board.specs.declared.Board.{Board}
+use Rattle.hierarchy.specs.Tables.{Tables, tables, kind}
 use Rattle.boardfile.specs.Files.{from, edge?, kindAt, fileOf}
 use Rattle.boardfile.specs.Answers.{NoRoom.past-end, NoRoom.too-few}
 use Rattle.boardfile.proofs.Filed.{sizes-few, file-long, file-room, no-room, filed}
@@ -23,19 +21,19 @@ cast-roles c = search needs
 edges-below-requires : tie.Need-edges-below-requires
 edges-below-requires c κs = search needs
 
-abbrev board : tie.Start → Board
-board s = boardOf (s .args .live) (s .args .i .now) (s .args .a .now)
+abbrev given : tie.Start → Tables
+given s = tables (s .args .live) (s .args .i .now) (s .args .a .now)
 
 -- kinds are a matter of the tables, whoever lives
-edges-are : (c : tie.After-edges-below) → c .edges-below .result ≡ length (from 4096 0 (edge? (kindAt (tablesOf (board (c .before .before .before))))))
+edges-are : (c : tie.After-edges-below) → c .edges-below .result ≡ length (from 4096 0 (edge? (kindAt (given (c .before .before .before)))))
 unfolding kindAt kind
 edges-are c = c .edges-below .ensures
 
 few : (c : tie.After-edges-below) → (c .before .size .result ≤ 64) × (c .edges-below .result ≤ 4096)
-few c = sizes-few (board (c .before .before .before)) (c .before .before .before .fits .live .fits) (c .before .size .ensures) (edges-are c)
+few c = sizes-few (given (c .before .before .before)) (c .before .before .before .fits .live .fits) (c .before .size .ensures) (edges-are c)
 
-long : (c : tie.After-edges-below) → c .before .size .result + 3 * c .edges-below .result + 6 ≡ length (fileOf (board (c .before .before .before)))
-long c = file-long (board (c .before .before .before)) (c .before .before .before .fits .live .fits) (c .before .size .ensures) (edges-are c)
+long : (c : tie.After-edges-below) → c .before .size .result + 3 * c .edges-below .result + 6 ≡ length (fileOf (given (c .before .before .before)))
+long c = file-long (given (c .before .before .before)) (c .before .before .before .fits .live .fits) (c .before .size .ensures) (edges-are c)
 
 mul-edges : tie.Need-mul-edges
 mul-edges c = let h = few c in omega arith
@@ -65,7 +63,7 @@ part-put-file-end : tie.Need-part-put-file-end
 part-put-file-end c = search needs
 
 put-file-requires : tie.Need-put-file-requires
-put-file-requires c κs = file-room (board (c .before .before .before .before .before .before)) (c .before .before .before .before .before .before .fits .live .fits) (c .before .before .before .before .size .ensures) (edges-are (c .before .before .before)) (c .before .before .before .before .before .before .args .out .now) (c .before .before .before .before .before .before .args .at)
+put-file-requires c κs = file-room (given (c .before .before .before .before .before .before)) (c .before .before .before .before .before .before .fits .live .fits) (c .before .before .before .before .size .ensures) (edges-are (c .before .before .before)) (c .before .before .before .before .before .before .args .out .now) (c .before .before .before .before .before .before .args .at)
     (c .before .before .if1 .left) (ltb-false _ _ (c .before .if2 .left))
 
 same-length : tie.Need-same-length

@@ -1,4 +1,3 @@
-use mathlib.Core.Path.{refl}
 use Rattle.examples.specs.Boards.{L}
 use borrow.Author.Needs.{needs}
 use Rattle.examples.proofs.boards.l.Statement.{statement}
@@ -16,9 +15,12 @@ array-write-a c = search needs
 array-write-a-2 : tie.Need-array-write-a-2
 array-write-a-2 c = search needs
 
+of-requires : tie.Need-of-requires
+of-requires c κs = search needs
+
 returns : tie.Need-returns
 unfolding L
-returns c = refl
+returns c = c .of .ensures
 
 pub l-spec : {M : Type 1} → statement M
-l-spec = tie.close (tie.spec array-write-i array-write-i-2 array-write-a array-write-a-2 returns)
+l-spec = tie.close (tie.spec array-write-i array-write-i-2 array-write-a array-write-a-2 of-requires returns)

@@ -1,4 +1,3 @@
-use mathlib.Core.Path.{refl}
 use Rattle.examples.specs.Boards.{P}
 use borrow.Author.Needs.{needs}
 use Rattle.examples.proofs.boards.p.Statement.{statement}
@@ -13,9 +12,12 @@ array-write-i-2 c = search needs
 array-write-a : tie.Need-array-write-a
 array-write-a c = search needs
 
+of-requires : tie.Need-of-requires
+of-requires c κs = search needs
+
 returns : tie.Need-returns
 unfolding P
-returns c = refl
+returns c = c .of .ensures
 
 pub p-spec : {M : Type 1} → statement M
-p-spec = tie.close (tie.spec array-write-i array-write-i-2 array-write-a returns)
+p-spec = tie.close (tie.spec array-write-i array-write-i-2 array-write-a of-requires returns)

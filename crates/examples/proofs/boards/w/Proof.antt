@@ -1,4 +1,3 @@
-use mathlib.Core.Path.{refl}
 use Rattle.examples.specs.Boards.{W}
 use borrow.Author.Needs.{needs}
 use Rattle.examples.proofs.boards.w.Statement.{statement}
@@ -16,9 +15,12 @@ array-write-a-2 c = search needs
 array-write-a-3 : tie.Need-array-write-a-3
 array-write-a-3 c = search needs
 
+of-requires : tie.Need-of-requires
+of-requires c κs = search needs
+
 returns : tie.Need-returns
 unfolding W
-returns c = refl
+returns c = c .of .ensures
 
 pub w-spec : {M : Type 1} → statement M
-w-spec = tie.close (tie.spec array-write-i array-write-a array-write-a-2 array-write-a-3 returns)
+w-spec = tie.close (tie.spec array-write-i array-write-a array-write-a-2 array-write-a-3 of-requires returns)

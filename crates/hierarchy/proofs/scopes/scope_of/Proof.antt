@@ -36,8 +36,8 @@ enum-told c = search needs
 returns : tie.Need-returns Inv-loop μ-loop
 returns c = λ r. let e = sift-end (nobody (c .enum-told .given .1) (c .before .before .lowest .ensures)) (c .before .before .before .loop .inv) r in (λ m. e .0 m .1, λ s. e .1 (s .derives, s))
 
-in-scope-requires : tie.Need-in-scope-requires Inv-loop μ-loop
-in-scope-requires c κs = (c .before .before .before .before .before .before .pre, picked (c .before .r .given .1) (c .before .before .before .lowest .ensures) .role)
+related-requires : tie.Need-related-requires Inv-loop μ-loop
+related-requires c κs = (c .before .before .before .before .before .before .pre, picked (c .before .r .given .1) (c .before .before .before .lowest .ensures) .role)
 
 with-requires : tie.Need-with-requires Inv-loop μ-loop
 with-requires c κs = search needs
@@ -53,8 +53,8 @@ loop-less c = taken-less (taken c)
 
 loop-again : tie.Need-loop-again Inv-loop μ-loop
 loop-again c = ⊎-elim
-    (λ w. sift-in (taken c) (c .before .before .before .before .before .before .before .loop .inv) (w .1 .result) (c .before .before .in-scope .ensures .0 (w .0 .taken)) (w .1 .ensures) (w .2))
-    (λ w. sift-out (taken c) (c .before .before .before .before .before .before .before .loop .inv) (λ s. false-no (w .0 .left) (c .before .before .in-scope .ensures .1 s)) (w .1))
+    (λ w. sift-in (taken c) (c .before .before .before .before .before .before .before .loop .inv) (w .1 .result) (c .before .before .related .ensures .0 (w .0 .taken)) (w .1 .ensures) (w .2))
+    (λ w. sift-out (taken c) (c .before .before .before .before .before .before .before .loop .inv) (λ s. false-no (w .0 .left) (c .before .before .related .ensures .1 s)) (w .1))
     (c .before .if1 .came)
 
 pub scope-of-spec : {M : Type 1} → statement M
@@ -70,7 +70,7 @@ scope-of-spec =
     enum-known-r
     enum-told
     returns
-    in-scope-requires
+    related-requires
     with-requires
     but-lowest-requires
     loop-less

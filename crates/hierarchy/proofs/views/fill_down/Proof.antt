@@ -1,10 +1,6 @@
-use mathlib.Core.Path.{sym, subst}
-use mathlib.Core.List.{List}
-use Prim.Native.Nat.{ℕ}
-use lib.ListN.{replicate}
-use Rattle.hierarchy.specs.Engine.{Right}
-use Rattle.hierarchy.proofs.Sweeps.{right-start, filled-down}
 use borrow.Author.Needs.{needs}
+use borrow.Author.Tests.{not-true, not-false}
+use Rattle.hierarchy.proofs.Walk.{at-first, filled-down, filled-blank}
 use Rattle.hierarchy.proofs.views.fill_down.Statement.{statement}
 use Rattle.hierarchy.proofs.views.fill_down.Tie as tie
 
@@ -12,10 +8,17 @@ blank-requires : tie.Need-blank-requires
 blank-requires c κs = search needs
 
 order-requires : tie.Need-order-requires
-order-requires c κs = subst (λ (t : List ℕ). Right (c .before .before .before .before .args .i .now) (c .before .before .before .before .args .a .now) (replicate 64 0) t 0) (sym (c .before .before .blank .ensures)) (right-start _ _)
+order-requires c κs = at-first (c .before .before .before .blank .ensures)
+
+blank-requires-2 : tie.Need-blank-requires-2
+blank-requires-2 c κs = search needs
 
 returns : tie.Need-returns
-returns c = filled-down (c .order .result) (c .order .ensures)
+returns c = filled-blank (c .before .before .before .order .ensures .stuck (not-true _ (c .before .before .if1 .taken))) (c .blank2 .ensures)
+
+returns-2 : tie.Need-returns-2
+returns-2 c = filled-down (c .before .order .ensures .right (not-false _ (c .if1 .left)))
 
 pub fill-down-spec : {M : Type 1} → statement M
-fill-down-spec = tie.close (tie.spec blank-requires order-requires returns)
+fill-down-spec =
+    tie.close (tie.spec blank-requires order-requires blank-requires-2 returns returns-2)

@@ -2,7 +2,7 @@ use borrow.Author.Needs.{needs}
 use native.Mathlib.Omega.{arith}
 use lib.Count.{ones}
 use Rattle.sets.proofs.Members.{Taken, taken-by, picked, nobody, taken-less}
-use Rattle.hierarchy.proofs.Sweeps.{Gathered, gather-start, gather-turn, gather-end}
+use Rattle.hierarchy.proofs.Walk.{Gathered, gather-start, gather-turn, gather-end}
 use Rattle.hierarchy.proofs.views.rows.Statement.{statement}
 use Rattle.hierarchy.proofs.views.rows.Tie as tie
 

@@ -1,5 +1,5 @@
 use borrow.Author.Needs.{needs}
-use Rattle.hierarchy.proofs.Sweeps.{settled-is}
+use Rattle.hierarchy.proofs.Walk.{settled-is}
 use Rattle.hierarchy.proofs.views.settle.Statement.{statement}
 use Rattle.hierarchy.proofs.views.settle.Tie as tie
 

@@ -1,0 +1,63 @@
+// Reading and writing for a caller whose board is lent part by part: a refusal leaves the parts, and nothing is copied on the way.
+ghost use Rattle.board.specs.Boards.{boardOf};
+ghost use Rattle.boardfile.specs.Answers.{ReadInto, WriteAnswer};
+use crate::Written;
+use crate::opening::open;
+use crate::writer::put;
+use board::checks::sound_of;
+
+// The board of a file, into these parts.
+pub fn read_into(
+    file: &[u8],
+    live: &mut u64,
+    i: &mut [u64; 64],
+    a: &mut [u64; 64],
+    derives: &mut [u64; 64],
+    derivers: &mut [u64; 64],
+    manager: &mut [u8; 64],
+) -> u8
+    ensures { λ r. ⌜ ReadInto (now (file .entry)) (boardOf (now (live .entry)) (now (i .entry)) (now (a .entry)) (now (derives .entry)) (now (derivers .entry)) (now (manager .entry))) (boardOf (now (live .exit)) (now (i .exit)) (now (a .exit)) (now (derives .exit)) (now (derivers .exit)) (now (manager .exit))) r ⌝ }
+{
+    let mut new_i = [0u64; 64];
+    let mut new_a = [0u64; 64];
+    let mut down = [0u64; 64];
+    let mut up = [0u64; 64];
+    let mut managers = [0u8; 64];
+    let f = open(
+        file,
+        &mut new_i,
+        &mut new_a,
+        &mut down,
+        &mut up,
+        &mut managers,
+    );
+    if f.number != 0 {
+        return f.number;
+    }
+    *live = f.live;
+    *i = new_i;
+    *a = new_a;
+    *derives = down;
+    *derivers = up;
+    *manager = managers;
+    0
+}
+
+// The file of the board of these parts, into a buffer, from a place on.
+pub fn write_of<'t>(
+    live: u64,
+    i: &'t [u64; 64],
+    a: &'t [u64; 64],
+    derives: &'t [u64; 64],
+    derivers: &'t [u64; 64],
+    manager: &'t [u8; 64],
+    out: &mut [u8],
+    at: usize,
+) -> Written
+    ensures { λ r. ⌜ WriteAnswer (boardOf live (now (i .entry)) (now (a .entry)) (now (derives .entry)) (now (derivers .entry)) (now (manager .entry))) (now (out .entry)) at (now (out .exit)) (r .number) (r .len) ⌝ }
+{
+    if !sound_of(live, i, a, derives, derivers, manager) {
+        return Written { number: 1, len: 0 };
+    }
+    put(live, i, a, out, at)
+}
