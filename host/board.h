@@ -10,11 +10,13 @@
  *
  *     uint8_t file[BOARD_FILE], next[BOARD_FILE];
  *     size_t len = ...;                                            // a board file, read from somewhere
- *     uint64_t r = board_manager(file, len, 5);
- *     if (BOARD_NUMBER(r) == 0 && BOARD_VALUE(r) != BOARD_NO_MANAGER)
- *         printf("5 reports to %u\n", BOARD_VALUE(r));
+ *     struct board b;
+ *     if (BOARD_NUMBER(board_read(file, len, &b)) == 0)            // the tree view: one call, then only looking
+ *         for (unsigned r = 1; r < BOARD_ROLES; r++)
+ *             if (b.live >> r & 1)
+ *                 printf("%u reports to %u\n", r, b.manager[r]);
  *     struct command c = { .code = 2, .actor = 0, .role = 5 };     // role 0 removes role 5
- *     r = board_command(file, len, &c, next, sizeof next);
+ *     uint64_t r = board_command(file, len, &c, next, sizeof next);
  *     if (BOARD_NUMBER(r) == 0)
  *         fwrite(next, 1, BOARD_VALUE(r), stdout);                 // the new file
  *     else
@@ -50,13 +52,38 @@ extern "C" {
 /* Beside a refusal the value is 0, and BOARD_NO_MANAGER from board_manager. */
 #define BOARD_VALUE(answer) ((uint32_t)((answer) >> 16 & 0xffff))
 
-/* ---- commands */
+/* ---- boards */
 
-/* Bit r of `live`: role r is live. Bit j of i[s] (of a[s]): senior s has junior j in the I table (in the A table). The
- * founding board is { .live = 1 }: role 0 is live, and there is no edge. */
+/* Bit r of `live`: role r is live. Bit j of i[s] (of a[s]): senior s has junior j in the I table (in the A table).
+ *
+ * What follows from these stands beside them. Bit y of derives[x], and bit x of derivers[y]: x derives y, as a live role
+ * does itself. manager[r]: the line manager of r. A role that isn't live has empty sets, and it and role 0 have
+ * BOARD_NO_MANAGER. A board with any of these wrong is not sound.
+ *
+ * After a call on it that answered 0 a board is sound, and a program may read these questions' answers off it:
+ *     does x derive y           derives[x] >> y & 1
+ *     is r in the scope of a    (derives[a] >> r & 1) && (derivers[r] & ~(derives[a] | derivers[a])) == 0
+ *     the line manager of r     manager[r]
+ *     the steps from r          how often r = manager[r] until r is 0, for a live r */
 struct board {
-    uint64_t live, i[BOARD_ROLES], a[BOARD_ROLES];
+    uint64_t live, i[BOARD_ROLES], a[BOARD_ROLES], derives[BOARD_ROLES], derivers[BOARD_ROLES];
+    uint8_t manager[BOARD_ROLES];
 };
+#define BOARD_NO_MANAGER 64
+
+/* Fills in the founding board: role 0 is live, and there is no edge. The answer is 0. */
+uint64_t board_found(struct board *b);
+
+/* The board in a file, filled in with what follows from its tables. A refusal (10, 11, 7 or 9) leaves `b` as it was. The
+ * value is 0. */
+uint64_t board_read(const uint8_t *file, size_t file_len, struct board *b);
+
+/* Writes the file of a board into `out` from place `at` on: its length is the value, and the bytes before and after it
+ * stay. 1 where the board is not sound, then 12 where `at` is past the end or the file is longer than what is left from
+ * there, whatever `at` is: these leave all of `out` as it was. */
+uint64_t board_write(const struct board *b, uint8_t *out, size_t out_len, size_t at);
+
+/* ---- commands */
 
 /* Code 1 adds a role, 2 removes one, 3 adds an edge, 4 removes one, 5 changes its kind. `role` is the role of 1 and 2,
  * and the senior of 3, 4 and 5; the kind is 1 (I), 2 (A) or 3 (both). The four sets are for code 1: bit r is role r.
@@ -66,14 +93,15 @@ struct command {
     uint64_t a_seniors, i_seniors, a_juniors, i_juniors;
 };
 
-/* One command on a board. Number 0 changes the board, any other leaves it as it was; place and value are 0. */
+/* One command on a board. Number 0 changes the board, tables and what follows from them; any other leaves it as it was.
+ * Place and value are 0. */
 uint64_t board_apply(struct board *b, const struct command *c);
 
 /* The same on the board in a file. Done puts the new file at the start of `out` (BOARD_FILE bytes are always enough),
  * and its length is the value; the rest of `out` stays. A refusal leaves all of `out` as it was. */
 uint64_t board_command(const uint8_t *file, size_t file_len, const struct command *c, uint8_t *out, size_t out_len);
 
-/* ---- questions about the board in a file */
+/* ---- questions about the board in a file: each call reads it anew */
 
 /* Can the file be read. */
 uint64_t board_check(const uint8_t *file, size_t file_len);
@@ -88,7 +116,6 @@ uint64_t board_scope(const uint8_t *file, size_t file_len, uint32_t a, uint32_t 
 
 /* The line manager of r: the value is its number, or BOARD_NO_MANAGER. Role 0 has none, which is no refusal. */
 uint64_t board_manager(const uint8_t *file, size_t file_len, uint32_t r);
-#define BOARD_NO_MANAGER 64
 
 /* From r to role 0 by line managers: the value is the number of steps. */
 uint64_t board_steps(const uint8_t *file, size_t file_len, uint32_t r);

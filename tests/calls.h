@@ -1,4 +1,4 @@
-/* board.h's eight functions as a record, so that one test serves the library, the plain C and the model. */
+/* board.h's eleven functions as a record, so that one test serves the library, the plain C and the model. */
 #ifndef CALLS_H
 #define CALLS_H
 
@@ -13,11 +13,15 @@ struct calls {
     uint64_t (*manager)(const uint8_t *file, size_t len, uint32_t r);
     uint64_t (*steps)(const uint8_t *file, size_t len, uint32_t r);
     uint64_t (*stretch)(const uint8_t *file, size_t len, uint32_t role);
+    uint64_t (*found)(struct board *b);
+    uint64_t (*read)(const uint8_t *file, size_t len, struct board *b);
+    uint64_t (*write)(const struct board *b, uint8_t *out, size_t room, size_t at);
 };
 
 #define CALLS(p)                                                                                           \
     {                                                                                                      \
-        p##_apply, p##_command, p##_check, p##_derives, p##_scope, p##_manager, p##_steps, p##_stretch     \
+        p##_apply, p##_command, p##_check, p##_derives, p##_scope, p##_manager, p##_steps, p##_stretch,    \
+            p##_found, p##_read, p##_write                                                                 \
     }
 
 #define DECLARE_CALLS(p)                                                                                   \
@@ -29,7 +33,10 @@ struct calls {
     uint64_t p##_scope(const uint8_t *file, size_t len, uint32_t a, uint32_t r);                           \
     uint64_t p##_manager(const uint8_t *file, size_t len, uint32_t r);                                     \
     uint64_t p##_steps(const uint8_t *file, size_t len, uint32_t r);                                       \
-    uint64_t p##_stretch(const uint8_t *file, size_t len, uint32_t role);
+    uint64_t p##_stretch(const uint8_t *file, size_t len, uint32_t role);                                  \
+    uint64_t p##_found(struct board *b);                                                                   \
+    uint64_t p##_read(const uint8_t *file, size_t len, struct board *b);                                   \
+    uint64_t p##_write(const struct board *b, uint8_t *out, size_t room, size_t at);
 
 /* The subject of a test: the library, or with -DSUBJECT_PLAIN the plain C in its place. */
 #ifdef SUBJECT_PLAIN

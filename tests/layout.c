@@ -1,41 +1,58 @@
 /* Where the fields of the two records stand, and that the subject reads each there and nothing between them.
  *
  * The commands that are done hold different numbers and sets, so that one read from another's place gives another
- * answer. Then each number is wrong alone, and the refusal is its own. */
+ * answer. Then each number is wrong alone, and the refusal is its own. The board's fields are spoilt one by one, too. */
 #include "calls.h"
 #include <stdio.h>
 #include <string.h>
 
 #define AT(record, field, place) _Static_assert(offsetof(struct record, field) == place, #record "." #field)
-_Static_assert(sizeof(struct board) == 1032 && sizeof(struct command) == 56, "sizes");
+_Static_assert(sizeof(struct board) == 2120 && sizeof(struct command) == 56, "sizes");
 AT(board, live, 0); AT(board, i, 8); AT(board, a, 520);
+AT(board, derives, 1032); AT(board, derivers, 1544); AT(board, manager, 2056);
 AT(command, code, 0); AT(command, actor, 4); AT(command, role, 8); AT(command, junior, 12); AT(command, kind, 16);
 AT(command, a_seniors, 24); AT(command, i_seniors, 32); AT(command, a_juniors, 40); AT(command, i_juniors, 48);
 enum { FILLER = 20 }; /* the 4 bytes behind the kind, which mean nothing */
 
 struct state {
-    struct board board;
+    struct board board; /* main() adds who has no manager */
     uint64_t len;
     uint8_t file[40];
 };
-static const struct state before = { /* 0 I 1, 0 I 3, 3 I 4, 3 I 8, 4 I 6 */
-    {0x15b, {[0] = 0xa, [3] = 0x110, [4] = 0x40}, {0}}, 27,
+static struct state before = { /* 0 I 1, 0 I 3, 3 I 4, 3 I 8, 4 I 6 */
+    {0x15b, {[0] = 0xa, [3] = 0x110, [4] = 0x40}, {0},
+     {[0] = 0x15b, [1] = 0x2, [3] = 0x158, [4] = 0x50, [6] = 0x40, [8] = 0x100},
+     {[0] = 0x1, [1] = 0x3, [3] = 0x9, [4] = 0x19, [6] = 0x59, [8] = 0x109},
+     {[1] = 0, [3] = 0, [4] = 3, [6] = 4, [8] = 3}}, 27,
     {0, 1, 3, 4, 6, 8, 0, 1, 1, 0, 3, 1, 3, 4, 1, 3, 8, 1, 4, 6, 1, 15, 0, 21, 0, 'H', 'H'}};
-static const struct state changed = { /* 4 A 6 instead */
-    {0x15b, {[0] = 0xa, [3] = 0x110}, {[4] = 0x40}}, 27,
+static struct state changed = { /* 4 A 6 instead */
+    {0x15b, {[0] = 0xa, [3] = 0x110}, {[4] = 0x40},
+     {[0] = 0x11b, [1] = 0x2, [3] = 0x118, [4] = 0x50, [6] = 0x40, [8] = 0x100},
+     {[0] = 0x1, [1] = 0x3, [3] = 0x9, [4] = 0x19, [6] = 0x50, [8] = 0x109},
+     {[1] = 0, [3] = 0, [4] = 3, [6] = 4, [8] = 3}}, 27,
     {0, 1, 3, 4, 6, 8, 0, 1, 1, 0, 3, 1, 3, 4, 1, 3, 8, 1, 4, 6, 2, 15, 0, 21, 0, 'H', 'H'}};
-static const struct state grown = { /* 4 A 9, 3 I 9, 9 A 6, 9 I 8 besides */
-    {0x35b, {[0] = 0xa, [3] = 0x310, [4] = 0x40, [9] = 0x100}, {[4] = 0x200, [9] = 0x40}}, 40,
+static struct state grown = { /* 4 A 9, 3 I 9, 9 A 6, 9 I 8 besides */
+    {0x35b, {[0] = 0xa, [3] = 0x310, [4] = 0x40, [9] = 0x100}, {[4] = 0x200, [9] = 0x40},
+     {[0] = 0x35b, [1] = 0x2, [3] = 0x358, [4] = 0x350, [6] = 0x40, [8] = 0x100, [9] = 0x340},
+     {[0] = 0x1, [1] = 0x3, [3] = 0x9, [4] = 0x19, [6] = 0x259, [8] = 0x319, [9] = 0x219},
+     {[1] = 0, [3] = 0, [4] = 3, [6] = 9, [8] = 9, [9] = 4}}, 40,
     {0, 1, 3, 4, 6, 8, 9, 0, 1, 1, 0, 3, 1, 3, 4, 1, 3, 8, 1, 3, 9, 1, 4, 6, 1, 4, 9, 2, 9, 6, 2, 9, 8, 1,
      27, 0, 34, 0, 'H', 'H'}};
+static struct state founding = {{1, {0}, {0}, {[0] = 1}, {[0] = 1}, {0}}, 7, {0, 0, 0, 1, 0, 'H', 'H'}};
 
 static const struct calls subject = CALLS_OF(SUBJECT);
-static int commands, wrong;
+static int calls, wrong;
+
+static void complain(const char *what)
+{
+    printf("layout wrong (" SUBJECT_NAME "): %s\n", what);
+    wrong++;
+}
 
 /* Through both calls, whatever the filler holds. */
 static void gives(struct command c, uint64_t number, const struct state *after)
 {
-    for (int filler = 0; filler <= 255; filler += 85, commands++) {
+    for (int filler = 0; filler <= 255; filler += 85, calls++) {
         struct state s = before, want = *after;
         memset((uint8_t *)&c + FILLER, filler, 4);
         uint64_t applied = subject.apply(&s.board, &c), said = subject.command(before.file, before.len, &c, s.file, 40);
@@ -49,8 +66,36 @@ static void gives(struct command c, uint64_t number, const struct state *after)
     }
 }
 
+/* From the file to the board, and from the board to the file, a byte further on. */
+static void reads_and_writes(const struct state *s)
+{
+    struct board b;
+    uint8_t out[42] = {0};
+    memset(&b, 0xee, sizeof b);
+    if (subject.read(s->file, s->len, &b) != 0 || memcmp(&b, &s->board, sizeof b) != 0) complain("a board that was read");
+    if (subject.write(&s->board, out, sizeof out, 1) != s->len << 16 || out[0] != 0 || memcmp(out + 1, s->file, 40) != 0)
+        complain("a board that was written");
+    calls += 2;
+}
+
+static void gives_1(struct board b, int field)
+{
+    static const char *const name[] = {"live", "i", "a", "derives", "derivers", "manager"};
+    const struct command change = {5, 3, 4, 6, 2, 1, 2, 4, 8};
+    struct board was = b;
+    uint8_t out[40] = {0}, none[40] = {0};
+    if (subject.apply(&b, &change) != 1 || memcmp(&b, &was, sizeof b) != 0) complain(name[field]);
+    if (subject.write(&b, out, sizeof out, 0) != 1 || memcmp(out, none, sizeof out) != 0) complain(name[field]);
+    calls += 2;
+}
+
 int main(void)
 {
+    struct state *const all[] = {&before, &changed, &grown, &founding};
+    for (int k = 0; k < 4; k++)
+        for (int role = 0; role < 64; role++)
+            if (role == 0 || !(all[k]->board.live >> role & 1)) all[k]->board.manager[role] = BOARD_NO_MANAGER;
+
     const struct command change = {5, 3, 4, 6, 2, 1, 2, 4, 8}, add = {1, 3, 9, 64, 65, 0x10, 0x8, 0x40, 0x100};
     static const uint32_t bad[5] = {3, 6, 0, 9, 4}, number[5] = {4, 6, 5, 3, 2};
     struct command c;
@@ -67,14 +112,27 @@ int main(void)
     int role = 257; /* an int that is no role, though its low 8 bits are */
     gives((struct command){.code = 2, .actor = 0, .role = role}, 2, &before);
 
-    for (int k = 0; k < 3; k++, commands++) { /* role 0 not live, an entry in the last row of each table */
-        struct board b = before.board, was;
-        *(k == 0 ? &b.live : k == 1 ? &b.i[63] : &b.a[63]) ^= 1;
-        was = b;
-        if (subject.apply(&b, &change) == 1 && memcmp(&b, &was, sizeof b) == 0) continue;
-        printf("layout wrong (" SUBJECT_NAME "): field %d of the board\n", k);
-        wrong++;
+    reads_and_writes(&before);
+    reads_and_writes(&changed);
+    reads_and_writes(&grown);
+    reads_and_writes(&founding);
+    struct board b = before.board;
+    if (subject.found(&b) != 0 || memcmp(&b, &founding.board, sizeof b) != 0) complain("the founding board");
+    calls++;
+
+    /* role 0 not live, an entry or a member too much in the last row of each table, another manager in the last place */
+    for (int field = 0; field < 6; field++) {
+        b = before.board;
+        uint64_t *const set[] = {&b.live, &b.i[63], &b.a[63], &b.derives[63], &b.derivers[63]};
+        if (field < 5) *set[field] ^= 1;
+        else b.manager[63] ^= 1;
+        gives_1(b, field);
     }
-    printf("layout of the records, " SUBJECT_NAME ": %d commands, %d wrong\n", commands, wrong);
+    for (int bit = 0; bit < 64; bit++) { /* each bit of a role's row, and of its manager */
+        b = before.board, b.derives[4] ^= 1ull << bit, gives_1(b, 3);
+        b = before.board, b.derivers[4] ^= 1ull << bit, gives_1(b, 4);
+        b = before.board, b.manager[4] ^= 1 << bit % 8, gives_1(b, 5);
+    }
+    printf("layout of the records, " SUBJECT_NAME ": %d calls, %d wrong\n", calls, wrong);
     return wrong == 0 ? 0 : 1;
 }

@@ -100,16 +100,21 @@ layout() {
     run "$build/layout"
 }
 
-# ---- instructions: of two times as many calls less those of as many
+# ---- instructions: of some calls less those of fewer, so that starting the program doesn't count
 
 executed() { "$emulator" -one-insn-per-tb -d exec,nochain -D /dev/stdout "$build/once" "$@" 2>"$build/said" | grep -c '^Trace'; }
 
-counted() { # BOARD DEED
-    mine=$(($(executed "$1" "$2" 0 2) - $(executed "$1" "$2" 0 1)))
-    other=$(($(executed "$1" "$2" 1 2) - $(executed "$1" "$2" 1 1)))
+counted() { # BOARD DEED TIMES FEWER_TIMES
+    mine=$(executed "$1" "$2" 0 "$3") other=$(executed "$1" "$2" 1 "$3")
     IFS='|' read -r calls name what <"$build/said"
-    awk -v m="$mine" -v o="$other" -v c="$calls" -v n="$name" -v w="$what" \
+    mine=$((mine - $(executed "$1" "$2" 0 "$4"))) other=$((other - $(executed "$1" "$2" 1 "$4")))
+    IFS='|' read -r fewer name what <"$build/said"
+    awk -v m="$mine" -v o="$other" -v c="$((calls - fewer))" -v n="$name" -v w="$what" \
         'BEGIN { printf "| %-22s | %-16s | %9d | %9d | %5.2f |\n", n, w, m / c, o / c, m / o }'
+}
+
+instructions_heading() { # TITLE
+    printf '\n%s\n\n| %-22s | %-16s | %9s | %9s | %5s |\n|---|---|---:|---:|---:|\n' "$1" board call "$subject" 'plain C' ratio
 }
 
 # ---- mutations
@@ -201,12 +206,10 @@ instructions)
     tools
     [ -n "$emulator" ] || die "instructions are counted by the kit's emulator, which this machine doesn't need"
     program "$build/once" -O3 "$here/bench/once.c" "$here/bench/boards.c" "$here/plain/plain.c"
-    printf '| %-22s | %-16s | %9s | %9s | %5s |\n|---|---|---:|---:|---:|\n' board call "$subject" 'plain C' ratio
-    for board in 0 1 2 3; do
-        for deed in 0 1 2 3 4 5 6 7 8 9; do
-            counted "$board" "$deed"
-        done
-    done
+    run "$build/once" >"$build/list"
+    while read -r board what; do
+        if [ "$board" = table ]; then instructions_heading "$what"; else counted "$board" $what </dev/null; fi
+    done <"$build/list"
     ;;
 boards)
     tools

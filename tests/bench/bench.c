@@ -39,7 +39,8 @@ static double median(double *v)
     return v[ROUNDS / 2];
 }
 
-static void row(const char *what, enum deed deed, struct sample *s)
+/* The subject's ns. */
+static double row(enum deed deed, struct sample *s)
 {
     double mine[ROUNDS], other[ROUNDS], ratio[ROUNDS];
     long turns = 1;
@@ -55,8 +56,9 @@ static void row(const char *what, enum deed deed, struct sample *s)
         ratio[k] = mine[k] / other[k];
     }
     double middle = median(ratio);
-    printf("| %-22s | %-16s | %9.0f | %9.0f | %5.2f | %5.2f | %5.2f |\n", s->name, what, median(mine), median(other),
-           middle, ratio[0], ratio[ROUNDS - 1]);
+    printf("| %-22s | %-16s | %9.0f | %9.0f | %5.2f | %5.2f | %5.2f |\n", s->name, deed_name[deed], median(mine),
+           median(other), middle, ratio[0], ratio[ROUNDS - 1]);
+    return mine[ROUNDS / 2];
 }
 
 static void heading(const char *title)
@@ -69,6 +71,8 @@ static void heading(const char *title)
 int main(int argc, char **argv)
 {
     static struct sample s;
+    static double took[4][CALLS];
+    static char names[4][sizeof s.name];
     static const unsigned roles[] = {1, 2, 4, 8, 16, 32, 64}, edges[] = {63, 126, 252, 504, 1008, 2016};
 
     setvbuf(stdout, NULL, _IOLBF, 0);
@@ -76,37 +80,27 @@ int main(int argc, char **argv)
     if (argc > 1 && strstr(argv[1], "emulated"))
         printf("EMULATED: only the ratios mean something, and they with care.\n");
 
-    heading("Each call");
-    for (int board = 0; board < 4; board++) {
-        switch (board) {
-        case 0: founding(&s); break;
-        case 1: tree(&s, 20); break;
-        case 2: chain(&s, 64); break;
-        default: dense(&s, 64, 2016);
+    for (const struct table *t = tables; t < tables + TABLES; t++) {
+        heading(t->title);
+        for (int board = 0; board < t->boards; board++) {
+            choose(&s, t->board[board]);
+            for (int deed = 0; deed < t->deeds; deed++) took[board][deed] = row(t->deed[deed], &s);
+            strcpy(names[board], s.name);
         }
-        for (int deed = 0; deed < DEEDS; deed++) row(deed_name[deed], deed, &s);
     }
-    heading("Numbered another way");
-    for (int board = 0; board < 3; board++) {
-        switch (board) {
-        case 0: renumbered(&s, 0, 61, "upwards"); break;
-        case 1: renumbered(&s, 1, 37, "mixed"); break;
-        default: renumbered(&s, 0, 37, "mixed");
-        }
-        row(deed_name[DONE], DONE, &s);
-        row(deed_name[REFUSED_7], REFUSED_7, &s);
-        row(deed_name[CHECK], CHECK, &s);
-        row(deed_name[STEPS], STEPS, &s);
-    }
+    printf("\n"); /* the tables end with the views */
+    for (int board = 0; board < tables[VIEWS].boards; board++)
+        printf("the view of %s: %.0f times as fast from the stored values as by calls\n", names[board],
+               took[board][1] / took[board][0]);
     heading("With more roles");
     for (size_t k = 0; k < sizeof roles / sizeof roles[0]; k++) {
         chain(&s, roles[k]);
-        row(deed_name[DONE], DONE, &s);
+        row(DONE, &s);
     }
     heading("With more edges");
     for (size_t k = 0; k < sizeof edges / sizeof edges[0]; k++) {
         dense(&s, 64, edges[k]);
-        row(deed_name[DONE], DONE, &s);
+        row(DONE, &s);
     }
     return 0;
 }

@@ -32,6 +32,9 @@ static void finish(struct sample *s, unsigned last)
     memcpy(at + 4, "HH", 2);
     s->len = at + 6 - s->file;
     s->last = last;
+    if (plain_read(s->file, s->len, &s->board) == 0) return; /* which adds the stored values */
+    printf("%s is no board\n", s->name);
+    exit(1);
 }
 
 static void begin(struct sample *s)
@@ -40,7 +43,7 @@ static void begin(struct sample *s)
     s->board.live = 1;
 }
 
-void founding(struct sample *s)
+static void founding(struct sample *s)
 {
     begin(s);
     strcpy(s->name, "founding board");
@@ -63,9 +66,11 @@ void chain(struct sample *s, unsigned roles)
     finish(s, roles - 1);
 }
 
+/* A chain, or a tree, of 64 with its roles in another order: behind 0 and 1 the others follow in steps of `stride` among
+ * themselves. */
 static unsigned at_place(unsigned place, unsigned stride) { return place < 2 ? place : 2 + (place - 2) * stride % 62; }
 
-void renumbered(struct sample *s, int is_tree, unsigned stride, const char *how)
+static void renumbered(struct sample *s, int is_tree, unsigned stride, const char *how)
 {
     begin(s);
     sprintf(s->name, "%s of 64, %s", is_tree ? "tree" : "chain", how);
@@ -84,11 +89,33 @@ void dense(struct sample *s, unsigned roles, unsigned edges)
     finish(s, roles - 1);
 }
 
+void choose(struct sample *s, int board)
+{
+    switch (board) {
+    case FOUNDING: founding(s); break;
+    case TREE_20: tree(s, 20); break;
+    case CHAIN_64: chain(s, 64); break;
+    case FULL: dense(s, 64, 2016); break;
+    case TREE_64: tree(s, 64); break;
+    case CHAIN_UPWARDS: renumbered(s, 0, 61, "upwards"); break;
+    case TREE_MIXED: renumbered(s, 1, 37, "mixed"); break;
+    default: renumbered(s, 0, 37, "mixed");
+    }
+}
+
 /* ---- calls */
 
 const char *const deed_name[DEEDS] = {"apply, done", "apply, refused 6", "apply, refused 7", "command, done",
                                       "check",       "derives",          "scope",            "manager",
-                                      "steps",       "stretch"};
+                                      "steps",       "stretch",          "read",             "write",
+                                      "view, stored", "view, by calls"};
+
+const struct table tables[TABLES] = {
+    {"Each call", 4, CALLS, {FOUNDING, TREE_20, CHAIN_64, FULL},
+     {DONE, REFUSED_6, REFUSED_7, COMMAND, CHECK, DERIVES, SCOPE, MANAGER, STEPS, STRETCH, READ, WRITE}},
+    {"Numbered another way", 3, 4, {CHAIN_UPWARDS, TREE_MIXED, CHAIN_MIXED}, {DONE, REFUSED_7, CHECK, STEPS}},
+    {"The tree view", 3, 2, {CHAIN_64, TREE_64, FULL}, {VIEW_STORED, VIEW_BY_CALLS}},
+};
 
 /* That the answers are right is the comparison's business; here it is enough that a call did what is measured. */
 static void expect(enum deed deed, const struct sample *s, uint64_t answer, uint8_t number)
@@ -98,12 +125,42 @@ static void expect(enum deed deed, const struct sample *s, uint64_t answer, uint
     exit(1);
 }
 
+/* What a view came to, so that it is worked out. */
+static volatile unsigned seen;
+
+static void view_stored(const struct calls *c, const struct sample *s)
+{
+    struct board b;
+    unsigned sum = 0;
+    expect(VIEW_STORED, s, c->read(s->file, s->len, &b), 0);
+    for (unsigned r = 0; r < BOARD_ROLES; r++) {
+        if (!(b.live >> r & 1)) continue;
+        sum += b.manager[r];
+        for (unsigned x = r; x != 0; x = b.manager[x]) sum++;
+    }
+    seen = sum;
+}
+
+static void view_by_calls(const struct calls *c, const struct sample *s)
+{
+    unsigned sum = 0;
+    for (unsigned r = 0; r < BOARD_ROLES; r++) {
+        if (!(s->board.live >> r & 1)) continue;
+        uint64_t manager = c->manager(s->file, s->len, r), steps = c->steps(s->file, s->len, r);
+        expect(VIEW_BY_CALLS, s, manager, 0);
+        expect(VIEW_BY_CALLS, s, steps, 0);
+        sum += BOARD_VALUE(manager) + BOARD_VALUE(steps);
+    }
+    seen = sum;
+}
+
 #define REPEAT(call, number)                                                                                           \
     for (long k = 0; k < times; k++) expect(deed, s, call, number)
 
 long perform(enum deed deed, const struct calls *c, struct sample *s, long times)
 {
     static uint8_t out[BOARD_FILE];
+    static struct board other;
     struct board *b = &s->board;
     const uint8_t *file = s->file, last = s->last, kind = (b->i[0] >> 1 & 1) | (b->a[0] >> 1 & 1) << 1;
     const size_t len = s->len;
@@ -127,7 +184,14 @@ long perform(enum deed deed, const struct calls *c, struct sample *s, long times
     case SCOPE: REPEAT(c->scope(file, len, 0, last), 0); break;
     case MANAGER: REPEAT(c->manager(file, len, last), 0); break;
     case STEPS: REPEAT(c->steps(file, len, last), 0); break;
-    default: REPEAT(c->stretch(file, len, last), 0);
+    case STRETCH: REPEAT(c->stretch(file, len, last), 0); break;
+    case READ: REPEAT(c->read(file, len, &other), 0); break;
+    case WRITE: REPEAT(c->write(b, out, sizeof out, 0), 0); break;
+    case VIEW_STORED:
+        for (long k = 0; k < times; k++) view_stored(c, s);
+        break;
+    default:
+        for (long k = 0; k < times; k++) view_by_calls(c, s);
     }
     return times;
 }

@@ -12,17 +12,29 @@ struct sample {
     unsigned last; /* the role farthest from 0 */
 };
 
-void founding(struct sample *s);
 void tree(struct sample *s, unsigned roles);
 void chain(struct sample *s, unsigned roles);
-/* A chain, or a tree, of 64 with its roles in another order: behind 0 and 1 the others follow in steps of `stride` among themselves. */
-void renumbered(struct sample *s, int is_tree, unsigned stride, const char *how);
 void dense(struct sample *s, unsigned roles, unsigned edges); /* a chain of IA edges, then ever longer ones */
+enum { FOUNDING, TREE_20, CHAIN_64, FULL, TREE_64, CHAIN_UPWARDS, TREE_MIXED, CHAIN_MIXED };
+void choose(struct sample *s, int board);
 
-/* What is measured. A done command is given with one that undoes it, so that both can be repeated. */
-enum deed { DONE, REFUSED_6, REFUSED_7, COMMAND, CHECK, DERIVES, SCOPE, MANAGER, STEPS, STRETCH, DEEDS };
+/* What is measured. A done command is given with one that undoes it, so that both can be repeated. A view is the line manager and the
+ * steps of all live roles: from one board that is read, or by two calls on the file for each role. */
+enum deed {
+    DONE, REFUSED_6, REFUSED_7, COMMAND, CHECK, DERIVES, SCOPE, MANAGER, STEPS, STRETCH, READ, WRITE, CALLS,
+    VIEW_STORED = CALLS, VIEW_BY_CALLS, DEEDS
+};
 extern const char *const deed_name[DEEDS];
-/* Does it so many times, and returns the number of calls. Ends the program where an answer isn't the right one. */
+/* Does it so many times, and returns the number of calls or views. Ends the program where an answer isn't the right one. */
 long perform(enum deed deed, const struct calls *c, struct sample *s, long times);
+
+/* Which is measured on which boards. */
+struct table {
+    const char *title;
+    int boards, deeds, board[4];
+    enum deed deed[CALLS];
+};
+enum { EACH_CALL, NUMBERED, VIEWS, TABLES };
+extern const struct table tables[TABLES];
 
 #endif

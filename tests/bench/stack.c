@@ -38,6 +38,12 @@ static uint64_t noted_stretch(const uint8_t *file, size_t len, uint32_t role)
 {
     return NOTED->stretch(file, len, role);
 }
+static uint64_t noted_found(struct board *b) { return NOTED->found(b); }
+static uint64_t noted_read(const uint8_t *file, size_t len, struct board *b) { return NOTED->read(file, len, b); }
+static uint64_t noted_write(const struct board *b, uint8_t *out, size_t room, size_t at)
+{
+    return NOTED->write(b, out, room, at);
+}
 
 static const struct calls noted = CALLS(noted);
 
@@ -68,14 +74,11 @@ static size_t depth(enum deed deed, const struct calls *calls, struct sample *s)
 int main(int argc, char **argv)
 {
     static struct sample samples[4];
-    founding(&samples[0]);
-    tree(&samples[1], 20);
-    chain(&samples[2], 64);
-    dense(&samples[3], 64, 2016);
+    for (int board = 0; board < 4; board++) choose(&samples[board], tables[EACH_CALL].board[board]);
 
     printf("bytes of stack, the most over the four boards; %s\n\n", argc > 1 ? argv[1] : "");
     printf("| %-16s | %9s | %9s |\n|---|---:|---:|\n", "call", SUBJECT_NAME, "plain C");
-    for (int deed = 0; deed < DEEDS; deed++) {
+    for (int deed = 0; deed < CALLS; deed++) {
         const struct calls *sides[2] = {&subject, &plain};
         size_t most[2] = {0, 0};
         for (int side = 0; side < 2; side++)

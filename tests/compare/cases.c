@@ -9,41 +9,50 @@
 
 static const struct calls subject = CALLS_OF(SUBJECT);
 
-const char *const call_name[CALL_COUNT] = {"apply", "command", "check", "derives",
-                                           "scope", "manager", "steps", "stretch"};
+const char *const call_name[CALL_COUNT] = {"apply", "command", "check",   "derives", "scope", "manager",
+                                           "steps", "stretch", "found",   "read",    "write"};
 
 /* The case in hand, for messages. */
 static struct {
     enum call call;
     const struct board *board;
     const uint8_t *file;
-    size_t len, room;
+    size_t len, room, at;
     const struct command *command;
     uint32_t x, y;
 } now;
 
 /* ---- the line that replays a case */
 
+/* Rows that are empty, and managers that are none, are left out. */
+static void print_board(const struct board *b)
+{
+    printf(" live=%llx", (unsigned long long)b->live);
+    for (int x = 0; x < ROLES; x++) {
+        if (b->i[x]) printf(" i%d=%llx", x, (unsigned long long)b->i[x]);
+        if (b->a[x]) printf(" a%d=%llx", x, (unsigned long long)b->a[x]);
+        if (b->derives[x]) printf(" down%d=%llx", x, (unsigned long long)b->derives[x]);
+        if (b->derivers[x]) printf(" up%d=%llx", x, (unsigned long long)b->derivers[x]);
+        if (b->manager[x] != NONE) printf(" m%d=%u", x, b->manager[x]);
+    }
+}
+
 static void print_case(void)
 {
     printf("replay: %s", call_name[now.call]);
-    if (now.call == APPLY) {
-        printf(" live=%llx", (unsigned long long)now.board->live);
-        for (int x = 0; x < ROLES; x++) {
-            if (now.board->i[x]) printf(" i%d=%llx", x, (unsigned long long)now.board->i[x]);
-            if (now.board->a[x]) printf(" a%d=%llx", x, (unsigned long long)now.board->a[x]);
-        }
-    } else {
+    if (now.call == APPLY || now.call == WRITE) print_board(now.board);
+    else if (now.call != FOUND) {
         printf(" file=");
         for (size_t k = 0; k < now.len; k++) printf("%02x", now.file[k]);
     }
-    if (now.command != NULL)
+    if (now.call == APPLY || now.call == COMMAND)
         printf(" numbers=%u,%u,%u,%u,%u,%llx,%llx,%llx,%llx", now.command->code, now.command->actor,
                now.command->role, now.command->junior, now.command->kind,
                (unsigned long long)now.command->a_seniors, (unsigned long long)now.command->i_seniors,
                (unsigned long long)now.command->a_juniors, (unsigned long long)now.command->i_juniors);
-    if (now.call == COMMAND) printf(" room=%zu", now.room);
-    if (now.call >= DERIVES) printf(" x=%u y=%u", now.x, now.y);
+    if (now.call == COMMAND || now.call == WRITE) printf(" room=%zu", now.room);
+    if (now.call == WRITE) printf(" at=%zu", now.at);
+    if (now.call >= DERIVES && now.call <= STRETCH) printf(" x=%u y=%u", now.x, now.y);
     printf("\n");
 }
 
@@ -88,19 +97,13 @@ static uint8_t *build_wall(void)
     return wall;
 }
 
-/* Copies of the file and of the command that end where unreadable memory begins. */
-static uint8_t *lend(const uint8_t *file, size_t len)
+/* Copies that end where unreadable memory begins. */
+enum lending { THE_FILE, THE_COMMAND, THE_BOARD, LENDINGS };
+static void *lend(enum lending what, const void *from, size_t len)
 {
-    static uint8_t *wall;
-    if (wall == NULL) wall = build_wall();
-    return memcpy(wall - len, file, len);
-}
-
-static struct command *lend_command(const struct command *c)
-{
-    static uint8_t *wall;
-    if (wall == NULL) wall = build_wall();
-    return memcpy(wall - sizeof *c, c, sizeof *c);
+    static uint8_t *wall[LENDINGS];
+    if (wall[what] == NULL) wall[what] = build_wall();
+    return memcpy(wall[what] - len, from, len);
 }
 
 /* What memory holds before a call: any pattern serves that a byte moved or cleared would break. */
@@ -128,29 +131,33 @@ static void tally_wide(enum call call, const struct view *v, const struct comman
     }
 }
 
+/* A board that is lent to be changed: behind it is the wall. */
+struct lent_board {
+    uint8_t before[GUARD];
+    struct board board;
+};
+
 uint8_t try_apply(const struct view *v, const struct board *b, const struct command *c, struct view *after)
 {
-    static struct lent {
-        uint8_t before[GUARD];
-        struct board board;
-        uint8_t after[GUARD];
-    } lent, want;
-    const struct command *command = lend_command(c);
+    static struct lent_board want;
+    const struct command *command = lend(THE_COMMAND, c, sizeof *c);
 
     now.call = APPLY, now.board = b, now.command = c;
     tally.calls++;
     tally.commands++;
     paint((uint8_t *)&want, sizeof want);
     want.board = *b;
-    lent = want;
+    struct lent_board *lent = lend(THE_BOARD, &want, sizeof want);
     uint8_t number = decide(v, c, after);
-    if (number == 0) to_board(&after->board, &want.board);
+    if (number == 0) to_board(after, &want.board);
 
-    uint64_t said = subject.apply(&lent.board, command);
+    uint64_t said = subject.apply(&lent->board, command);
     if (said != number) disagree("answer %#llx, the model %#x", (unsigned long long)said, number);
-    if (memcmp(&lent.board, &want.board, sizeof want.board) != 0)
+    if (memcmp(&lent->board, &want.board, offsetof(struct board, derives)) != 0)
         disagree("number %u, another board afterwards", number);
-    if (memcmp(&lent, &want, sizeof want) != 0) disagree("bytes outside the board were touched");
+    if (memcmp(&lent->board, &want.board, sizeof want.board) != 0)
+        disagree("number %u, other stored values afterwards", number);
+    if (memcmp(lent, &want, sizeof want) != 0) disagree("bytes before the board were touched");
     if (memcmp(command, c, sizeof *c) != 0) disagree("the command was touched");
 
     tally_wide(APPLY, v, c, number);
@@ -173,7 +180,7 @@ static bool seniors_in_scope(const struct view *v, int a, int r)
 
 void try_question(const struct opened *o, enum call call, uint32_t x, uint32_t y)
 {
-    const uint8_t *file = lend(o->file, o->len);
+    const uint8_t *file = lend(THE_FILE, o->file, o->len);
     uint64_t said = 0, want = 0;
 
     now.call = call, now.file = o->file, now.len = o->len, now.command = NULL, now.x = x, now.y = y;
@@ -204,8 +211,8 @@ void try_question(const struct opened *o, enum call call, uint32_t x, uint32_t y
 void try_command(const struct opened *o, const struct command *c, size_t room)
 {
     static uint8_t lent[GUARD + ROOM + GUARD], want[sizeof lent];
-    const uint8_t *file = lend(o->file, o->len);
-    const struct command *command = lend_command(c);
+    const uint8_t *file = lend(THE_FILE, o->file, o->len);
+    const struct command *command = lend(THE_COMMAND, c, sizeof *c);
     size_t all = GUARD + room + GUARD;
 
     now.call = COMMAND, now.file = o->file, now.len = o->len, now.command = c, now.room = room;
@@ -226,28 +233,81 @@ void try_command(const struct opened *o, const struct command *c, size_t room)
     if (BOARD_NUMBER(answer) == 12 && room == 0) tally.room_none++;
 }
 
+/* FOUND or READ. What the board holds before is painted: all of it is filled in, or nothing. */
+static uint64_t fill(enum call call, const struct opened *o)
+{
+    static struct lent_board want;
+    const uint8_t *file = call == READ ? lend(THE_FILE, o->file, o->len) : NULL;
+
+    now.call = call;
+    if (call == READ) now.file = o->file, now.len = o->len;
+    tally.calls++;
+    paint((uint8_t *)&want, sizeof want);
+    struct lent_board *lent = lend(THE_BOARD, &want, sizeof want);
+    unsigned long long answer = call == READ ? answer_read(o, &want.board) : answer_found(&want.board);
+    unsigned long long said = call == READ ? subject.read(file, o->len, &lent->board) : subject.found(&lent->board);
+    if (said != answer) disagree("answer %#llx, the model %#llx", said, answer);
+    if (memcmp(&lent->board, &want.board, sizeof want.board) != 0) disagree("answer %#llx, another board", said);
+    if (memcmp(lent, &want, sizeof want) != 0) disagree("bytes before the board were touched");
+    if (call == READ && memcmp(file, o->file, o->len) != 0) disagree("the file was touched");
+    return answer;
+}
+
+void try_found(void)
+{
+    fill(FOUND, NULL);
+    tally.found++;
+}
+
+void try_read(const struct opened *o) { tally.read[BOARD_NUMBER(fill(READ, o))]++; }
+
+uint8_t try_write(const struct view *v, const struct board *b, size_t room, size_t at)
+{
+    static uint8_t lent[GUARD + ROOM + GUARD], want[sizeof lent];
+    const struct board *board = lend(THE_BOARD, b, sizeof *b);
+    size_t all = GUARD + room + GUARD;
+
+    now.call = WRITE, now.board = b, now.room = room, now.at = at;
+    tally.calls++;
+    paint(lent, all);
+    memcpy(want, lent, all);
+    unsigned long long answer = answer_write(v, want + GUARD, room, at);
+    unsigned long long said = subject.write(board, lent + GUARD, room, at);
+    if (said != answer) disagree("answer %#llx, the model %#llx", said, answer);
+    if (memcmp(lent, want, all) != 0) disagree("answer %#llx, other bytes in the buffer or around it", said);
+    if (memcmp(board, b, sizeof *b) != 0) disagree("the board was touched");
+    tally.write[BOARD_NUMBER(answer)]++;
+    return BOARD_NUMBER(answer);
+}
+
 /* ---- replay */
 
-static void replay_apply(char *words)
+/* APPLY or WRITE. */
+static void replay_board(enum call call, char *words)
 {
     static struct board b;
     static struct view v, after;
     static struct command c;
     unsigned long long set, s[4];
     unsigned n[5], row;
+    size_t room = 0, at = 0;
     memset(&b, 0, sizeof b);
+    memset(b.manager, NONE, sizeof b.manager);
     for (char *w = strtok(words, " \n"); w != NULL; w = strtok(NULL, " \n")) {
         if (sscanf(w, "live=%llx", &set) == 1) b.live = set;
         else if (sscanf(w, "i%u=%llx", &row, &set) == 2 && row < ROLES) b.i[row] = set;
         else if (sscanf(w, "a%u=%llx", &row, &set) == 2 && row < ROLES) b.a[row] = set;
+        else if (sscanf(w, "down%u=%llx", &row, &set) == 2 && row < ROLES) b.derives[row] = set;
+        else if (sscanf(w, "up%u=%llx", &row, &set) == 2 && row < ROLES) b.derivers[row] = set;
+        else if (sscanf(w, "m%u=%llu", &row, &set) == 2 && row < ROLES) b.manager[row] = set;
         else if (sscanf(w, "numbers=%u,%u,%u,%u,%u,%llx,%llx,%llx,%llx", n, n + 1, n + 2, n + 3, n + 4, s, s + 1,
                         s + 2, s + 3) == 9)
             c = (struct command){n[0], n[1], n[2], n[3], n[4], s[0], s[1], s[2], s[3]};
+        else if (sscanf(w, "room=%zu", &room) != 1) sscanf(w, "at=%zu", &at);
     }
-    from_board(&b, &v.board);
-    look(&v);
-    uint8_t number = try_apply(&v, &b, &c, &after);
-    printf("agreed: apply gives %u\n", number);
+    from_board(&b, &v);
+    uint8_t number = call == APPLY ? try_apply(&v, &b, &c, &after) : try_write(&v, &b, room <= ROOM ? room : ROOM, at);
+    printf("agreed: %s gives %u\n", call_name[call], number);
 }
 
 static void replay_file(enum call call, char *words)
@@ -269,6 +329,7 @@ static void replay_file(enum call call, char *words)
     }
     open_file(&o, file, len);
     if (call == COMMAND) try_command(&o, &c, room <= ROOM ? room : ROOM);
+    else if (call == READ) try_read(&o);
     else try_question(&o, call, x, y);
     printf("agreed: %s, file number %u\n", call_name[call], o.number);
 }
@@ -288,8 +349,9 @@ int replay(const char *name)
         word += strlen("replay: ");
         for (int call = 0; call < CALL_COUNT; call++) {
             size_t len = strlen(call_name[call]);
-            if (strncmp(word, call_name[call], len) != 0 || word[len] != ' ') continue;
-            if (call == APPLY) replay_apply(word + len);
+            if (strncmp(word, call_name[call], len) != 0 || strchr(" \n", word[len]) == NULL) continue;
+            if (call == FOUND) try_found(), printf("agreed: found\n");
+            else if (call == APPLY || call == WRITE) replay_board(call, word + len);
             else replay_file(call, word + len);
             cases++;
         }

@@ -23,7 +23,8 @@ static struct board board;
 static void start(void)
 {
     look(&here);
-    to_board(&here.board, &board);
+    keep(&here);
+    to_board(&here, &board);
 }
 
 static int role_count(const struct model *m)
@@ -51,7 +52,7 @@ static void run_commands(int count)
         if (edge_count(&here.board) == EDGES) tally.full_edges++;
         if (try_apply(&here, &board, &c, &after) != 0) continue;
         here = after;
-        to_board(&here.board, &board);
+        to_board(&here, &board);
     }
 }
 
@@ -64,7 +65,7 @@ static void grow(int roles)
         while (c.code != ADD_ROLE);
         if (try_apply(&here, &board, &c, &after) != 0) continue;
         here = after;
-        to_board(&here.board, &board);
+        to_board(&here, &board);
     }
 }
 
@@ -83,17 +84,58 @@ static void drawn_boards(void)
     run_commands(12);
 }
 
+/* The board in hand, made to give 1 whatever is asked of it. */
+static void refused_board(const char *way)
+{
+    static uint8_t whole[FILE_MAX];
+    struct command c;
+    size_t room, at;
+    draw_command(&here, &c);
+    if (chance(30)) c.code = below(7);
+    uint8_t number = try_apply(&here, &board, &c, &after);
+    if (number != 1) disagree("%s: made to be unsound, and both give %u", way, number);
+    choose_place(below(PLACES), put_file(&here.board, whole), &room, &at);
+    number = try_write(&here, &board, room, at);
+    if (number != 1) disagree("%s: made to be unsound, and both give %u", way, number);
+}
+
 static void unsound_boards(void)
 {
-    struct command c;
     for (int way = 0; way < UNSOUND_WAYS; way++) {
         if (!draw_unsound(way, &here, &board)) continue;
-        draw_command(&here, &c);
-        if (chance(30)) c.code = below(7);
-        uint8_t number = try_apply(&here, &board, &c, &after);
-        if (number != 1) disagree("%s: made to be unsound, and both give %u", unsound_way[way], number);
-        tally.unsound[way]++;
+        refused_board(unsound_way[way]);
+        tally.unsound[way][0]++;
+        tally.unsound[way][1] += right_values(&here);
     }
+    for (int way = 0; way < WRONG_WAYS; way++) {
+        if (!draw_wrong(way, &here, &board)) continue;
+        refused_board(wrong_way[way]);
+        tally.wrong[way]++;
+    }
+}
+
+/* The board in hand to every place: what is wrong with the board comes first. */
+static void write_everywhere(bool is_sound)
+{
+    static uint8_t whole[FILE_MAX];
+    size_t len = put_file(&here.board, whole), room, at;
+    for (int place = 0; place < PLACES; place++) {
+        uint8_t want = !is_sound ? 1 : places[place].fits ? 0 : 12;
+        choose_place(place, len, &room, &at);
+        uint8_t number = try_write(&here, &board, room, at);
+        if (number != want) disagree("%s: made to give %u, and both give %u", places[place].name, want, number);
+        tally.place[place][is_sound]++;
+    }
+}
+
+static void written_boards(void)
+{
+    try_found();
+    draw_sound(&here, chance(90) ? 12 : 40);
+    start();
+    write_everywhere(true);
+    if (chance(50) ? draw_unsound(below(UNSOUND_WAYS), &here, &board) : draw_wrong(below(WRONG_WAYS), &here, &board))
+        write_everywhere(false);
 }
 
 /* ---- files */
@@ -129,6 +171,7 @@ static void ask_some(int commands, int questions)
 {
     struct command c;
     try_question(&opened, CHECK, 0, 0);
+    try_read(&opened);
     for (int k = 0; k < questions; k++) {
         enum call call = DERIVES + below(STRETCH - DERIVES + 1);
         uint32_t x = some_role(), y = chance(5) ? x : some_role();
@@ -229,6 +272,7 @@ static void largest_boards(void)
     }
     v = here;
     start();
+    try_write(&here, &board, FILE_MOST + below(20), below(10));
     run_commands(6);
     v = chance(50) ? v : here;
     try_file(AS_WRITTEN, &v);
@@ -263,6 +307,7 @@ static int run(const struct size *size, uint64_t seed)
         grown_boards();
         for (int k = 0; k < 5; k++) drawn_boards();
         unsound_boards();
+        written_boards();
         files_of_a_board();
         rare_refusals();
         if (round % 2 == 0) largest_boards();

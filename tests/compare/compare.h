@@ -28,7 +28,19 @@ bool draw_hidden_loop(const struct view *v, struct command *c);
 
 enum { UNSOUND_WAYS = 8 };
 extern const char *const unsound_way[UNSOUND_WAYS];
-bool draw_unsound(int way, struct view *v, struct board *b); /* false: this board can't be spoilt so */
+bool draw_unsound(int way, struct view *v, struct board *b); /* in its tables; false: this board can't be spoilt so */
+enum { WRONG_WAYS = 12 };
+extern const char *const wrong_way[WRONG_WAYS];
+bool draw_wrong(int way, struct view *v, struct board *b); /* sound but for a stored value */
+
+/* Where a file is to be written. */
+enum { PLACES = 11 };
+struct place {
+    const char *name;
+    bool fits;
+};
+extern const struct place places[PLACES];
+void choose_place(int place, size_t len, size_t *room, size_t *at); /* for a file of so many bytes */
 
 /* ---- damage.c: board files, good and bad */
 enum { ANY_NUMBER = 255, BUFFER = 65536 + FILE_MAX, ROOM = 16384 };
@@ -46,7 +58,7 @@ enum { EMPTY, AS_WRITTEN }; /* the first two of the list; the first alone has no
 size_t make_file(int damage, struct view *v, uint8_t *file); /* the length; 0: v can't be damaged so, or EMPTY */
 
 /* ---- cases.c: one call at a time, on both sides */
-enum call { APPLY, COMMAND, CHECK, DERIVES, SCOPE, MANAGER, STEPS, STRETCH, CALL_COUNT };
+enum call { APPLY, COMMAND, CHECK, DERIVES, SCOPE, MANAGER, STEPS, STRETCH, FOUND, READ, WRITE, CALL_COUNT };
 extern const char *const call_name[CALL_COUNT];
 
 /* Both sides get the board and the command; the number and the board afterwards must agree.
@@ -54,6 +66,9 @@ extern const char *const call_name[CALL_COUNT];
 uint8_t try_apply(const struct view *v, const struct board *b, const struct command *c, struct view *after);
 void try_question(const struct opened *o, enum call call, uint32_t x, uint32_t y);
 void try_command(const struct opened *o, const struct command *c, size_t room);
+void try_found(void);
+void try_read(const struct opened *o);
+uint8_t try_write(const struct view *v, const struct board *b, size_t room, size_t at);
 void disagree(const char *what, ...); /* prints the case in hand and ends the program */
 int replay(const char *name);         /* a file of case lines, or "-" */
 void watch_for_crashes(void);
@@ -65,7 +80,10 @@ struct tally {
     long command[6][3][13];
     long question[CALL_COUNT][3][13];
     long value[CALL_COUNT][2]; /* number 0 with value: none or no, some or yes */
-    long unsound[UNSOUND_WAYS];
+    long found, read[13], write[13];
+    long unsound[UNSOUND_WAYS][2]; /* all, and those with the right stored values for such tables */
+    long wrong[WRONG_WAYS];
+    long place[PLACES][2]; /* of a board that isn't sound, and of one that is */
     long damage[64][13];
     long full_roles, full_edges, longest_file, too_long_file, many_edges; /* edges of size */
     long room_exact, room_short, room_none, idle_change, most_steps;

@@ -181,7 +181,7 @@ static bool with_loop(struct parts *p, struct view *v)
 {
     for (int k = 0; k < 30; k++) {
         uint8_t x = any_listed(p), y = any_listed(p);
-        if (!v->reaches[x][y]) continue;
+        if (x >= ROLES || y >= ROLES || !v->reaches[x][y]) continue; /* an earlier fault may list such a number */
         insert_edge(p, y, x, any_kind());
         return true;
     }

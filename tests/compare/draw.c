@@ -210,11 +210,17 @@ const char *const unsound_way[UNSOUND_WAYS] = {
     "entry from a role that isn't live", "entry to a role that isn't live", "a loop", "a role's edge to itself",
     "role 0 isn't live", "a role without an administrator", "an entry on an empty board", "noise"};
 
+static void noisy_values(struct stored *s)
+{
+    for (int x = 0; x < ROLES; x++) s->derives[x] = draw64(), s->derivers[x] = draw64(), s->manager[x] = below(256);
+}
+
 bool draw_unsound(int way, struct view *v, struct board *b)
 {
     struct model *m = &v->board;
     int x, y;
     draw_sound(v, 10);
+    keep(v);
     switch (way) {
     case 0:
         x = pick_dead(m), y = chance(80) ? pick_live(m) : pick_dead(m);
@@ -251,14 +257,121 @@ bool draw_unsound(int way, struct view *v, struct board *b)
         break;
     default: break;
     }
-    to_board(m, b);
+    to_board(v, b);
     if (way == 7) {
         b->live = draw64() | chance(50);
         for (x = 0; x < ROLES; x++) b->i[x] = draw64(), b->a[x] = draw64() & draw64();
-        from_board(b, m);
     }
-    look(v);
+    from_board(b, v);
+    /* mostly the values that belong to these tables, so that the tables alone are at fault; or what stood before */
+    if (chance(70)) keep(v);
+    else if (chance(30)) noisy_values(&v->stored);
+    to_board(v, b);
     return true;
+}
+
+/* ---- wrong stored values */
+
+const char *const wrong_way[WRONG_WAYS] = {
+    "derives, of a live role", "derives, of one that isn't", "derivers, of a live role", "derivers, of one that isn't",
+    "manager, of a live role", "manager, of one that isn't", "manager, of role 0", "manager above 64",
+    "manager not the nearest", "manager none, of a live role", "values of the board before", "derives for derivers"};
+
+static uint64_t any_bit(void) { return 1ull << below(64); }
+
+/* Another administrator of some role than its line manager. */
+static bool farther_manager(struct view *v)
+{
+    for (int k = 0; k < 30; k++) {
+        int r = pick_live(&v->board), a = pick_live(&v->board);
+        if (!administers(v, a, r) || a == line_manager(v, r)) continue;
+        v->stored.manager[r] = a;
+        return true;
+    }
+    return false;
+}
+
+/* The tables go on by a command, and the values stay. */
+static bool stale_values(struct view *v)
+{
+    static struct view after;
+    struct command c;
+    for (int k = 0; k < 30; k++) {
+        draw_command(v, &c);
+        if (decide(v, &c, &after) != 0) continue;
+        if (memcmp(&after.stored, &v->stored, sizeof after.stored) == 0) continue;
+        after.stored = v->stored;
+        *v = after;
+        return true;
+    }
+    return false;
+}
+
+bool draw_wrong(int way, struct view *v, struct board *b)
+{
+    struct stored *s = &v->stored, was;
+    if (chance(5)) draw_tree(v, ROLES - below(2));
+    else draw_sound(v, chance(90) ? 10 : 30);
+    keep(v);
+    was = *s;
+    int live = pick_live(&v->board), dead = pick_dead(&v->board), low = pick_live(&v->board);
+    if (chance(15) && !v->board.live[ROLES - 1]) dead = ROLES - 1;
+    if (dead == NONE && (way == 1 || way == 3 || way == 5)) return false;
+    int either = dead == NONE || chance(70) ? live : dead;
+    switch (way) {
+    case 0: s->derives[live] ^= any_bit(); break;
+    case 1: s->derives[dead] ^= any_bit(); break;
+    case 2: s->derivers[live] ^= any_bit(); break;
+    case 3: s->derivers[dead] ^= any_bit(); break;
+    case 4:
+        if (live == 0) return false;
+        s->manager[live] ^= 1 << below(6);
+        break;
+    case 5: s->manager[dead] = chance(50) ? low : s->manager[dead] ^ 1 << below(8); break;
+    case 6: s->manager[0] = chance(50) ? low : s->manager[0] ^ 1 << below(8); break;
+    case 7:
+        if (chance(50)) s->manager[either] = chance(50) ? NONE + 1 : NONE + 1 + below(255 - NONE);
+        else s->manager[either] |= 128; /* right in its lowest 7 bits */
+        break;
+    case 8:
+        if (!farther_manager(v)) return false;
+        break;
+    case 9: s->manager[live] = NONE; break;
+    case 10:
+        if (!stale_values(v)) return false;
+        break;
+    default: memcpy(s->derivers, s->derives, sizeof s->derives);
+    }
+    to_board(v, b);
+    return way == 10 || memcmp(s, &was, sizeof was) != 0;
+}
+
+/* ---- places to write to */
+
+const struct place places[PLACES] = {
+    {"at 0, room to spare", true},         {"at 0, just fitting", true},   {"in the middle", true},
+    {"in the middle, just fitting", true}, {"at 0, a byte short", false},  {"in the middle, a byte short", false},
+    {"no room at all", false},             {"at the end", false},          {"one past the end", false},
+    {"at the last place there is", false}, {"far, and the end wraps", false},
+};
+
+void choose_place(int place, size_t len, size_t *room, size_t *at)
+{
+    *at = 1 + below(200);
+    *room = *at + len + 1 + below(200);
+    switch (place) {
+    case 0: *at = 0; break;
+    case 1: *at = 0, *room = len; break;
+    case 2: break;
+    case 3: *room = *at + len; break;
+    case 4: *at = 0, *room = len - 1; break;
+    case 5: *room = *at + len - 1; break;
+    case 6: *at = *room = 0; break;
+    case 7: *at = *room; break;
+    case 8: *at = *room + 1; break;
+    case 9: *at = SIZE_MAX; break;
+    default: *at = SIZE_MAX - below(TRAILER); /* with the length of any file it comes to a place within */
+    }
 }
 
 /* ---- commands */

@@ -80,18 +80,61 @@ static void commands(void)
     }
 }
 
+/* Boards that give 1, from apply and from write each. */
+static void unsound_boards(void)
+{
+    printf("%-36s%8s%14s\n", "unsound tables, all refused with 1", "all", "values right");
+    for (int way = 0; way < UNSOUND_WAYS; way++) {
+        printf("%-36s%8ld%14ld\n", unsound_way[way], tally.unsound[way][0], tally.unsound[way][1]);
+        need(tally.unsound[way][0], "unsound board", unsound_way[way]);
+        need(tally.unsound[way][1], "unsound board, stored values right", unsound_way[way]);
+    }
+    printf("wrong stored values, all refused with 1\n");
+    for (int way = 0; way < WRONG_WAYS; way++) {
+        printf("%-36s%8ld\n", wrong_way[way], tally.wrong[way]);
+        need(tally.wrong[way], "wrong stored value", wrong_way[way]);
+    }
+}
+
+static void reading_and_writing(void)
+{
+    static const char *const columns[] = {"0", "7", "9", "10", "11", "1", "12"}, *const boards[] = {"sound", "not"};
+    static const int number[] = {0, 7, 9, 10, 11, 1, 12};
+    char what[20];
+    heading("board_read, board_write", columns, 7);
+    for (int call = READ; call <= WRITE; call++) {
+        const long *count = call == READ ? tally.read : tally.write;
+        printf("%-36s", call_name[call]);
+        for (int k = 0; k < 7; k++) printf("%8ld", count[number[k]]);
+        printf("\n");
+        for (int k = 0; k < 7; k++) {
+            sprintf(what, "%d", number[k]);
+            if (k == 0 || (k < 5) == (call == READ)) need(count[number[k]], call_name[call], what);
+            else never(count[number[k]], call_name[call], what);
+        }
+    }
+    printf("%-36s%8ld\n", call_name[FOUND], tally.found);
+    need(tally.found, call_name[FOUND], "0");
+    heading("written, of boards", boards, 2);
+    for (int place = 0; place < PLACES; place++) {
+        printf("%-36s%8ld%8ld\n", places[place].name, tally.place[place][true], tally.place[place][false]);
+        need(tally.place[place][true], "a sound board written", places[place].name);
+        need(tally.place[place][false], "a board that isn't sound written", places[place].name);
+    }
+}
+
 static void questions(void)
 {
     static const char *const columns[] = {"no/none", "yes/some", "2", "3", "f7", "f9", "f10", "f11"};
     static const int number[] = {2, 3, 7, 9, 10, 11};
     char what[20];
     heading("question (f file)", columns, 8);
-    for (int call = CHECK; call < CALL_COUNT; call++) {
+    for (int call = CHECK; call <= STRETCH; call++) {
         printf("%-36s%8ld%8ld", call_name[call], tally.value[call][0], tally.value[call][1]);
         for (int k = 0; k < 6; k++) printf("%8ld", tally.question[call][k < 2 ? ASKED : IN_FILE][number[k]]);
         printf("\n");
     }
-    for (int call = CHECK; call < CALL_COUNT; call++) {
+    for (int call = CHECK; call <= STRETCH; call++) {
         need(tally.value[call][0], call_name[call], "no, none or 0");
         if (call != CHECK) need(tally.value[call][1], call_name[call], "yes or some");
         for (int k = call == CHECK ? 2 : 0; k < 6; k++) {
@@ -163,7 +206,7 @@ static void wide_numbers(void)
         printf("\n");
     }
     heading("above 255 in a question, so 2", argument, 2);
-    for (int c = DERIVES; c < CALL_COUNT; c++)
+    for (int c = DERIVES; c <= STRETCH; c++)
         printf("%-36s%8ld%8ld\n", call_name[c], tally.wide_role[c][0], tally.wide_role[c][1]);
     for (int c = APPLY; c <= COMMAND; c++)
         for (int k = 0; k < FIELDS; k++) {
@@ -173,7 +216,7 @@ static void wide_numbers(void)
             if (k == JUNIOR || k == KIND) need(tally.wide_unused[c][k], call_name[c], what);
             else never(tally.wide_unused[c][k], call_name[c], what);
         }
-    for (int c = DERIVES; c < CALL_COUNT; c++)
+    for (int c = DERIVES; c <= STRETCH; c++)
         for (int k = 0; k < (c <= SCOPE ? 2 : 1); k++) {
             sprintf(what, "%s role above 255, so 2", argument[k]);
             need(tally.wide_role[c][k], call_name[c], what);
@@ -186,11 +229,8 @@ int print_tally(long least)
     wanting = 0;
     printf("\n");
     commands();
-    printf("unsound boards, all refused with 1\n");
-    for (int way = 0; way < UNSOUND_WAYS; way++) {
-        printf("%-36s%8ld\n", unsound_way[way], tally.unsound[way]);
-        need(tally.unsound[way], "unsound board", unsound_way[way]);
-    }
+    unsound_boards();
+    reading_and_writing();
     questions();
     wide_numbers();
     files();

@@ -1,5 +1,6 @@
 /* board.h's answers, from the model. */
 #include "model.h"
+#include <string.h>
 
 static uint64_t answer(uint8_t number, uint8_t place, uint64_t value)
 {
@@ -82,6 +83,29 @@ uint64_t answer_command(const struct opened *o, const struct command *c, uint8_t
     return answer(number, number != 0 ? IN_WRITING : ASKED, len);
 }
 
+uint64_t answer_found(struct board *b)
+{
+    static struct view v;
+    found(&v.board);
+    look(&v);
+    keep(&v);
+    to_board(&v, b);
+    return answer(0, ASKED, 0);
+}
+
+uint64_t answer_read(const struct opened *o, struct board *b)
+{
+    if (o->number == 0) to_board(&o->view, b);
+    return answer_check(o);
+}
+
+uint64_t answer_write(const struct view *v, uint8_t *out, size_t room, size_t at)
+{
+    size_t len;
+    uint8_t number = write_file(v, out, room, at, &len);
+    return answer(number, number == 12 ? IN_WRITING : ASKED, len);
+}
+
 /* ---- the same with board.h's signatures, each reading the file anew */
 
 static struct opened *opened(const uint8_t *file, size_t len)
@@ -94,10 +118,9 @@ static struct opened *opened(const uint8_t *file, size_t len)
 uint64_t model_apply(struct board *b, const struct command *c)
 {
     static struct view before, after;
-    from_board(b, &before.board);
-    look(&before);
+    from_board(b, &before);
     uint8_t number = decide(&before, c, &after);
-    if (number == 0) to_board(&after.board, b);
+    if (number == 0) to_board(&after, b);
     return answer(number, ASKED, 0);
 }
 
@@ -120,4 +143,13 @@ uint64_t model_steps(const uint8_t *file, size_t len, uint32_t r) { return answe
 uint64_t model_stretch(const uint8_t *file, size_t len, uint32_t role)
 {
     return answer_stretch(opened(file, len), role);
+}
+
+uint64_t model_found(struct board *b) { return answer_found(b); }
+uint64_t model_read(const uint8_t *file, size_t len, struct board *b) { return answer_read(opened(file, len), b); }
+uint64_t model_write(const struct board *b, uint8_t *out, size_t room, size_t at)
+{
+    static struct view v;
+    from_board(b, &v);
+    return answer_write(&v, out, room, at);
 }

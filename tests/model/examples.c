@@ -15,10 +15,22 @@ static void expect(const char *what, uint64_t got, uint64_t want)
     wrong++;
 }
 
-/* A board from lines such as "0 I 1, 1 A 3"; every role named is live. */
+static uint8_t file[FILE_MAX];
+static size_t len;
+static struct board asked; /* the board in the file, with its stored values */
+
+static void put(const struct board *b)
+{
+    static struct view v;
+    from_board(b, &v);
+    len = put_file(&v.board, file);
+    expect("the file is read", use->read(file, len, &asked), 0);
+}
+
+/* A board from lines such as "0 I 1, 1 A 3"; every role named is live. The reader adds the stored values. */
 static struct board board_of(const char *edges)
 {
-    struct board b = {1, {0}, {0}};
+    struct board b = {.live = 1};
     int senior, junior, taken;
     char kind[3];
     while (sscanf(edges, " %d %2s %d%n", &senior, kind, &junior, &taken) == 3) {
@@ -28,18 +40,15 @@ static struct board board_of(const char *edges)
         edges += taken;
         if (*edges == ',') edges++;
     }
-    return b;
+    put(&b);
+    return asked;
 }
-
-static uint8_t file[FILE_MAX];
-static size_t len;
 
 /* Questions below are asked of this board. */
 static void about(const struct board *b)
 {
-    struct model m;
-    from_board(b, &m);
-    len = put_file(&m, file);
+    put(b);
+    expect("the board of its own file", memcmp(&asked, b, sizeof asked) != 0, false);
 }
 
 static void sound_board(const char *what, const struct board *b)
@@ -48,11 +57,15 @@ static void sound_board(const char *what, const struct board *b)
     expect(what, use->check(file, len), 0);
 }
 
+/* Each question is asked of the file, and read off the board as board.h says. */
+
 static void derives(int x, int y, bool want)
 {
     char what[40];
     sprintf(what, "%d derives %d", x, y);
     expect(what, use->derives(file, len, x, y), (uint32_t)want << 16);
+    expect(what, in(asked.derives[x], y), want);
+    expect(what, in(asked.derivers[y], x), want);
 }
 
 static void scope(int a, uint64_t want, int count, int live)
@@ -61,6 +74,8 @@ static void scope(int a, uint64_t want, int count, int live)
     for (int r = 0; r < live; r++) {
         sprintf(what, "scope of %d has %d", a, r);
         expect(what, use->scope(file, len, a, r), (uint32_t)(count * 2 + in(want, r)) << 16);
+        uint64_t related = asked.derives[a] | asked.derivers[a];
+        expect(what, in(asked.derives[a], r) && (asked.derivers[r] & ~related) == 0, in(want, r));
     }
 }
 
@@ -69,6 +84,7 @@ static void manager(int r, int want)
     char what[40];
     sprintf(what, "line manager of %d", r);
     expect(what, use->manager(file, len, r), (uint32_t)want << 16);
+    expect(what, asked.manager[r], want);
 }
 
 static void walk(int r, int want)
@@ -76,6 +92,9 @@ static void walk(int r, int want)
     char what[40];
     sprintf(what, "steps from %d", r);
     expect(what, use->steps(file, len, r), (uint32_t)want << 16);
+    int n = 0;
+    for (; r != 0 && n < ROLES; n++) r = asked.manager[r] % ROLES;
+    expect(what, n, want);
 }
 
 /* Gives the command, through both calls, and hands back the board afterwards, which a refusal leaves as it was. */
@@ -110,15 +129,16 @@ static struct command edge(int code, int actor, int senior, int junior, int kind
 
 int wrong_examples(const char *whose, const struct calls *of)
 {
-    struct board p = board_of("0 I 1, 1 I 2, 1 A 3");
-    struct board w = board_of("0 I 1, 0 I 2, 0 I 3, 1 A 3, 1 A 4, 3 A 5, 4 A 5");
-    struct board l = board_of("0 I 1, 1 I 2, 2 A 3, 0 A 3");
-    struct board founding = board_of(""), b;
+    struct board p, w, l, founding, b;
     struct command c;
 
     use = of;
     user = whose;
     wrong = 0;
+    p = board_of("0 I 1, 1 I 2, 1 A 3");
+    w = board_of("0 I 1, 0 I 2, 0 I 3, 1 A 3, 1 A 4, 3 A 5, 4 A 5");
+    l = board_of("0 I 1, 1 I 2, 2 A 3, 0 A 3");
+    expect("the founding board", use->found(&founding), 0);
     sound_board("P is sound", &p);
     sound_board("W is sound", &w);
     sound_board("L is sound", &l);
@@ -192,9 +212,15 @@ int wrong_examples(const char *whose, const struct calls *of)
     static const uint8_t listed[] = {0, 1, 2, 0, 1, 1, 1, 2, 2, 6, 0, 9, 0, 0x48, 0x48};
     memcpy(file, listed, len = sizeof listed);
     expect("the listed file", use->check(file, len), 0);
+    expect("the listed file", use->read(file, len, &asked), 0);
     manager(0, NONE), manager(1, 0), manager(2, 1);
     walk(0, 0), walk(1, 1), walk(2, 2);
     expect("stretch of 1 in it", use->stretch(file, len, 1), 6ull << 16 | 3ull << 32);
     expect("stretch of 2 in it", use->stretch(file, len, 2), 0);
+    uint8_t out[sizeof listed + 2] = {7, [sizeof out - 1] = 7};
+    expect("written from place 1", use->write(&asked, out, sizeof out, 1), (uint32_t)len << 16);
+    expect("its bytes", memcmp(out + 1, listed, len) != 0 || out[0] != 7 || out[sizeof out - 1] != 7, false);
+    asked.manager[2] = 0;
+    expect("a wrong line manager", use->write(&asked, out, sizeof out, 1), 1);
     return wrong;
 }

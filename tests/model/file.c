@@ -67,6 +67,7 @@ uint8_t read_file(const uint8_t *file, size_t len, struct view *v)
         found(&v->board);
         look(v);
     }
+    keep(v);
     return number;
 }
 

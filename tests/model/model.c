@@ -4,19 +4,28 @@
 
 bool in(uint64_t set, int role) { return set >> role & 1; }
 
-void from_board(const struct board *b, struct model *m)
+void from_board(const struct board *b, struct view *v)
 {
+    struct model *m = &v->board;
     for (int x = 0; x < ROLES; x++) {
         m->live[x] = in(b->live, x);
         for (int y = 0; y < ROLES; y++)
             m->kind[x][y] = (in(b->i[x], y) ? 1 : 0) + (in(b->a[x], y) ? 2 : 0);
+        v->stored.derives[x] = b->derives[x];
+        v->stored.derivers[x] = b->derivers[x];
+        v->stored.manager[x] = b->manager[x];
     }
+    look(v);
 }
 
-void to_board(const struct model *m, struct board *b)
+void to_board(const struct view *v, struct board *b)
 {
+    const struct model *m = &v->board;
     memset(b, 0, sizeof *b);
     for (int x = 0; x < ROLES; x++) {
+        b->derives[x] = v->stored.derives[x];
+        b->derivers[x] = v->stored.derivers[x];
+        b->manager[x] = v->stored.manager[x];
         b->live |= (uint64_t)m->live[x] << x;
         for (int y = 0; y < ROLES; y++) {
             uint8_t kind = m->kind[x][y];
@@ -181,13 +190,50 @@ static bool joined(const struct model *m)
     return true;
 }
 
-bool sound(const struct view *v)
+bool sound_tables(const struct view *v)
 {
     if (!joined(&v->board)) return false;
     if (loops(v)) return false;
     if (!v->board.live[0]) return false;
     return !unmanaged(v);
 }
+
+/* ---- stored values */
+
+/* A role that isn't live has empty sets and no manager. */
+static void values_of(const struct view *v, struct stored *s)
+{
+    memset(s, 0, sizeof *s);
+    for (int x = 0; x < ROLES; x++) {
+        s->manager[x] = NONE;
+        if (!v->board.live[x]) continue;
+        for (int y = 0; y < ROLES; y++) {
+            if (v->derives[x][y]) s->derives[x] |= 1ull << y;
+            if (v->derives[y][x]) s->derivers[x] |= 1ull << y;
+        }
+        s->manager[x] = line_manager(v, x);
+    }
+}
+
+void keep(struct view *v) { values_of(v, &v->stored); }
+
+static bool right_for(const struct stored *s, const struct stored *right, int x)
+{
+    if (s->derives[x] != right->derives[x]) return false;
+    if (s->derivers[x] != right->derivers[x]) return false;
+    return s->manager[x] == right->manager[x];
+}
+
+bool right_values(const struct view *v)
+{
+    struct stored right;
+    values_of(v, &right);
+    for (int x = 0; x < ROLES; x++)
+        if (!right_for(&v->stored, &right, x)) return false;
+    return true;
+}
+
+bool sound(const struct view *v) { return sound_tables(v) && right_values(v); }
 
 /* ---- commands */
 
@@ -316,5 +362,6 @@ uint8_t decide(const struct view *before, const struct command *c, struct view *
     struct change g = {before, c, after_board, false};
     for (size_t k = 0; k < sizeof refusals / sizeof refusals[0]; k++)
         if (refusals[k].holds(&g)) return refusals[k].number;
+    keep(after_board);
     return 0;
 }

@@ -18,19 +18,27 @@ struct model {
     uint8_t kind[ROLES][ROLES];
 };
 
-/* A board beside what its paths say. */
+/* The values that a board record keeps beside its tables, right or not. */
+struct stored {
+    uint64_t derives[ROLES], derivers[ROLES];
+    uint8_t manager[ROLES];
+};
+
+/* A board with its stored values, beside what its paths say. */
 struct view {
     struct model board;
+    struct stored stored;
     bool reaches[ROLES][ROLES], derives[ROLES][ROLES];
 };
 
 /* model.c */
 bool in(uint64_t set, int role);
-void from_board(const struct board *b, struct model *m);
-void to_board(const struct model *m, struct board *b);
+void from_board(const struct board *b, struct view *v); /* and looks */
+void to_board(const struct view *v, struct board *b);
 void found(struct model *m);
 bool join_associates(void); /* paths are explored from the left; so it doesn't matter */
 void look(struct view *v); /* fills in what the paths of v->board say */
+void keep(struct view *v); /* and then the right stored values */
 bool in_scope(const struct view *v, int a, int r);
 bool administers(const struct view *v, int a, int r);
 int scope_count(const struct view *v, int a);
@@ -38,7 +46,9 @@ int line_manager(const struct view *v, int r); /* or NONE */
 int steps(const struct view *v, int r);
 bool loops(const struct view *v);
 bool unmanaged(const struct view *v);
-bool sound(const struct view *v);
+bool sound_tables(const struct view *v);
+bool right_values(const struct view *v);
+bool sound(const struct view *v); /* both */
 /* The refusal number; `after` is the board afterwards where it is 0, and means nothing where it is not. */
 uint8_t decide(const struct view *before, const struct command *c, struct view *after);
 
@@ -64,6 +74,9 @@ uint64_t answer_manager(const struct opened *o, uint32_t r);
 uint64_t answer_steps(const struct opened *o, uint32_t r);
 uint64_t answer_stretch(const struct opened *o, uint32_t role);
 uint64_t answer_command(const struct opened *o, const struct command *c, uint8_t *out, size_t room);
+uint64_t answer_found(struct board *b);
+uint64_t answer_read(const struct opened *o, struct board *b);
+uint64_t answer_write(const struct view *v, uint8_t *out, size_t room, size_t at);
 
 /* examples.c: the scope document's examples; prints and counts those that go wrong */
 int wrong_examples(const char *whose, const struct calls *of);

@@ -1,7 +1,8 @@
 /* board.h's contract in plain C, quick and unproved: what the library is measured against.
  *
- * Sets of roles are words. A board is weighed as a whole before and after every change: `down` of a role is what it
- * derives, `up` what derives it, and with these two the scope of a over r is two tests on words. */
+ * Sets of roles are words. The values that a board keeps are worked out from its tables as a whole: once for the board
+ * handed in, to be compared with its own, and once for the board that a command leaves, in their place there. `down` of a
+ * role is what it derives, `up` what derives it. */
 #include "calls.h"
 #include <stdbool.h>
 #include <string.h>
@@ -11,13 +12,10 @@ enum { ASKED, IN_FILE, IN_WRITING };
 
 typedef uint64_t set;
 
-struct weighed {
-    set down[64], up[64];
-};
-
 static inline set only(unsigned r) { return 1ull << r; }
 static inline bool has(set s, unsigned r) { return s >> r & 1; }
 static inline unsigned lowest(set s) { return __builtin_ctzll(s); }
+static inline unsigned highest(set s) { return 63 - __builtin_clzll(s); }
 static inline unsigned size(set s) { return __builtin_popcountll(s); }
 
 /* r = each member of s in turn, lowest first */
@@ -87,54 +85,87 @@ static bool descend(const struct board *b, set down[64])
 
 #endif
 
-static inline bool in_scope(const struct weighed *w, unsigned a, unsigned r)
-{
-    return has(w->down[a], r) && (w->up[r] & ~(w->up[a] | w->down[a])) == 0;
-}
+/* ---- stored values */
 
-static inline bool in_strict_scope(const struct weighed *w, unsigned a, unsigned r)
+/* Who derives whom. False, with nothing of use worked out, where there is a loop. */
+static bool derive(const struct board *b, set down[64], set up[64])
 {
-    return a != r && in_scope(w, a, r);
-}
-
-static bool managed(const struct weighed *w, unsigned r)
-{
-    EACH(a, w->up[r] & ~only(r)) if (in_scope(w, a, r)) return true;
-    return false;
-}
-
-/* Works out who derives whom. False, with nothing worked out, where there is a loop. */
-static bool loopless(const struct board *b, struct weighed *w)
-{
-    if (!descend(b, w->down)) return false;
-    EACH(x, b->live) w->up[x] = 0;
-    EACH(x, b->live) EACH(y, w->down[x]) w->up[y] |= only(x);
+    memset(down, 0, 64 * sizeof *down);
+    if (!descend(b, down)) return false;
+    memset(up, 0, 64 * sizeof *up);
+    EACH(x, b->live) EACH(y, down[x]) up[y] |= only(x);
     return true;
 }
 
-static bool all_managed(const struct board *b, const struct weighed *w)
+/* The line managers. False where a role but 0 has no administrator. */
+static bool manage(set live, const set down[64], const set up[64], uint8_t manager[64])
 {
-    EACH(r, b->live & ~1ull) if (!managed(w, r)) return false;
+    set related[64];
+    EACH(x, live) related[x] = down[x] | up[x];
+    memset(manager, BOARD_NO_MANAGER, 64);
+    EACH(r, live & ~1ull) {
+        set administrators = up[r] & ~only(r);
+        EACH(x, up[r] & ~only(r)) administrators &= related[x];
+        if (administrators == 0) return false;
+        /* the nearest derives no other: from any of them on to those it derives, until none is left */
+        unsigned nearest = highest(administrators);
+        while ((administrators &= down[nearest] & ~only(nearest)) != 0) nearest = highest(administrators);
+        manager[r] = nearest;
+    }
     return true;
 }
 
-static bool sound(const struct board *b, struct weighed *w)
+static bool sound(const struct board *b)
 {
-    return joins_live(b) && loopless(b, w) && all_managed(b, w);
+    set down[64], up[64];
+    uint8_t manager[64];
+    return joins_live(b) && derive(b, down, up) && memcmp(down, b->derives, sizeof down) == 0 &&
+           memcmp(up, b->derivers, sizeof up) == 0 && manage(b->live, down, up, manager) &&
+           memcmp(manager, b->manager, sizeof manager) == 0;
+}
+
+static inline bool in_scope(const struct board *b, unsigned a, unsigned r)
+{
+    return has(b->derives[a], r) && (b->derivers[r] & ~(b->derivers[a] | b->derives[a])) == 0;
+}
+
+static inline bool in_strict_scope(const struct board *b, unsigned a, unsigned r)
+{
+    return a != r && in_scope(b, a, r);
 }
 
 /* ---- commands */
 
-static bool allowed(const struct weighed *w, const struct command *c)
+static bool allowed(const struct board *b, const struct command *c)
 {
     switch (c->code) {
     case ADD_ROLE:
-        EACH(x, c->a_seniors | c->i_seniors) if (!in_scope(w, c->actor, x)) return false;
-        EACH(x, c->a_juniors | c->i_juniors) if (!in_strict_scope(w, c->actor, x)) return false;
+        EACH(x, c->a_seniors | c->i_seniors) if (!in_scope(b, c->actor, x)) return false;
+        EACH(x, c->a_juniors | c->i_juniors) if (!in_strict_scope(b, c->actor, x)) return false;
         return true;
-    case REMOVE_ROLE: return in_strict_scope(w, c->actor, c->role);
-    default: return in_scope(w, c->actor, c->role) && in_scope(w, c->actor, c->junior);
+    case REMOVE_ROLE: return in_strict_scope(b, c->actor, c->role);
+    default: return in_scope(b, c->actor, c->role) && in_scope(b, c->actor, c->junior);
     }
+}
+
+/* What refuses a command on a sound board before it is changed, or 0. */
+static uint8_t before(const struct board *b, const struct command *c)
+{
+    bool on_edge = c->code >= ADD_EDGE, has_kind = on_edge && c->code != REMOVE_EDGE;
+    set named = only(c->actor & 63);
+
+    if (c->code < ADD_ROLE || c->code > CHANGE_EDGE || c->actor > 63 || c->role > 63) return 2;
+    if ((on_edge && c->junior > 63) || (has_kind && (c->kind < 1 || c->kind > 3))) return 2;
+
+    if (c->code == ADD_ROLE) named |= c->a_seniors | c->i_seniors | c->a_juniors | c->i_juniors;
+    else named |= only(c->role);
+    if (on_edge) named |= only(c->junior);
+    if (named & ~b->live) return 3;
+
+    bool stands = on_edge ? has(b->i[c->role] | b->a[c->role], c->junior) : has(b->live, c->role);
+    if ((c->code == ADD_ROLE || c->code == ADD_EDGE) && stands) return 4;
+    if ((c->code == REMOVE_EDGE || c->code == CHANGE_EDGE) && !stands) return 5;
+    return allowed(b, c) ? 0 : 6;
 }
 
 static void put_kind(struct board *b, unsigned senior, unsigned junior, unsigned kind)
@@ -167,38 +198,23 @@ static void change(struct board *b, const struct command *c)
     }
 }
 
-/* `w` belongs to b, which is sound. Where the number is 0 the board is changed; else it may be and must be dropped. */
-static uint8_t decide(struct board *b, struct weighed *w, const struct command *c)
+/* The change, and then the values of the board it leaves. That board must be dropped where the number isn't 0. */
+static uint8_t after(struct board *b, const struct command *c)
 {
-    bool on_edge = c->code >= ADD_EDGE, has_kind = on_edge && c->code != REMOVE_EDGE;
-    set named = only(c->actor & 63);
-
-    if (c->code < ADD_ROLE || c->code > CHANGE_EDGE || c->actor > 63 || c->role > 63) return 2;
-    if ((on_edge && c->junior > 63) || (has_kind && (c->kind < 1 || c->kind > 3))) return 2;
-
-    if (c->code == ADD_ROLE) named |= c->a_seniors | c->i_seniors | c->a_juniors | c->i_juniors;
-    else named |= only(c->role);
-    if (on_edge) named |= only(c->junior);
-    if (named & ~b->live) return 3;
-
-    bool stands = on_edge ? has(b->i[c->role] | b->a[c->role], c->junior) : has(b->live, c->role);
-    if ((c->code == ADD_ROLE || c->code == ADD_EDGE) && stands) return 4;
-    if ((c->code == REMOVE_EDGE || c->code == CHANGE_EDGE) && !stands) return 5;
-    if (!allowed(w, c)) return 6;
-
     change(b, c);
-    if (!loopless(b, w)) return 7;
-    if (c->code == ADD_ROLE && !in_strict_scope(w, c->actor, c->role)) return 8;
-    return all_managed(b, w) ? 0 : 9;
+    if (!derive(b, b->derives, b->derivers)) return 7;
+    if (c->code == ADD_ROLE && !in_strict_scope(b, c->actor, c->role)) return 8;
+    return manage(b->live, b->derives, b->derivers, b->manager) ? 0 : 9;
 }
 
 uint64_t plain_apply(struct board *b, const struct command *c)
 {
-    struct weighed w;
     struct board next;
-    if (!sound(b, &w)) return 1;
-    next = *b;
-    uint8_t number = decide(&next, &w, c);
+    if (!sound(b)) return 1;
+    uint8_t number = before(b, c);
+    if (number != 0) return number;
+    memcpy(&next, b, offsetof(struct board, derives)); /* the tables alone: the rest is worked out */
+    number = after(&next, c);
     if (number == 0) *b = next;
     return number;
 }
@@ -207,7 +223,7 @@ uint64_t plain_apply(struct board *b, const struct command *c)
 
 enum { TRAILER = 6, FILE_MOST = 6118 };
 
-static uint8_t read_file(const uint8_t *file, size_t len, struct board *b, struct weighed *w)
+static uint8_t read_file(const uint8_t *file, size_t len, struct board *b)
 {
     if (len < TRAILER || len > FILE_MOST) return 10;
     const uint8_t *t = file + len - TRAILER;
@@ -216,7 +232,7 @@ static uint8_t read_file(const uint8_t *file, size_t len, struct board *b, struc
     size_t roles = all - edges;
     if (roles < 1 || roles > 64) return 10;
 
-    memset(b, 0, sizeof *b);
+    memset(b, 0, offsetof(struct board, derives));
     if (file[0] != 0) return 11;
     int last = -1;
     for (size_t k = 0; k < roles; last = file[k++]) {
@@ -231,8 +247,8 @@ static uint8_t read_file(const uint8_t *file, size_t len, struct board *b, struc
         b->i[e[0]] |= (set)(e[2] & 1) << e[1];
         b->a[e[0]] |= (set)(e[2] >> 1) << e[1];
     }
-    if (!loopless(b, w)) return 7;
-    return all_managed(b, w) ? 0 : 9;
+    if (!derive(b, b->derives, b->derivers)) return 7;
+    return manage(b->live, b->derives, b->derivers, b->manager) ? 0 : 9;
 }
 
 /* The length, or 0 and nothing written where there is no room. */
@@ -261,70 +277,56 @@ static size_t write_file(const struct board *b, uint8_t *out, size_t room)
 static uint64_t answer(uint8_t number, unsigned place, uint64_t value) { return number | place << 8 | value << 16; }
 
 /* A board read from a file and asked about x and y: 0, or the whole refusal with no value. */
-static uint64_t ask(const uint8_t *file, size_t len, struct board *b, struct weighed *w, uint32_t x, uint32_t y)
+static uint64_t ask(const uint8_t *file, size_t len, struct board *b, uint32_t x, uint32_t y)
 {
-    uint8_t number = read_file(file, len, b, w);
+    uint8_t number = read_file(file, len, b);
     if (number != 0) return answer(number, IN_FILE, 0);
     if (x > 63 || y > 63) return answer(2, ASKED, 0);
     return has(b->live, x) && has(b->live, y) ? 0 : answer(3, ASKED, 0);
 }
 
-static unsigned manager(const struct weighed *w, unsigned r)
-{
-    set administrators = 0;
-    EACH(a, w->up[r] & ~only(r)) if (in_scope(w, a, r)) administrators |= only(a);
-    EACH(m, administrators) if ((administrators & ~w->up[m]) == 0) return m;
-    return BOARD_NO_MANAGER;
-}
-
 uint64_t plain_check(const uint8_t *file, size_t len)
 {
     struct board b;
-    struct weighed w;
-    return ask(file, len, &b, &w, 0, 0);
+    return ask(file, len, &b, 0, 0);
 }
 
 uint64_t plain_derives(const uint8_t *file, size_t len, uint32_t x, uint32_t y)
 {
     struct board b;
-    struct weighed w;
-    uint64_t refusal = ask(file, len, &b, &w, x, y);
-    return refusal != 0 ? refusal : answer(0, ASKED, has(w.down[x], y));
+    uint64_t refusal = ask(file, len, &b, x, y);
+    return refusal != 0 ? refusal : answer(0, ASKED, has(b.derives[x], y));
 }
 
 uint64_t plain_scope(const uint8_t *file, size_t len, uint32_t a, uint32_t r)
 {
     struct board b;
-    struct weighed w;
-    uint64_t refusal = ask(file, len, &b, &w, a, r), count = 0;
+    uint64_t refusal = ask(file, len, &b, a, r), count = 0;
     if (refusal != 0) return refusal;
-    EACH(x, w.down[a]) count += in_scope(&w, a, x);
-    return answer(0, ASKED, in_scope(&w, a, r) | count << 1);
+    EACH(x, b.derives[a]) count += in_scope(&b, a, x);
+    return answer(0, ASKED, in_scope(&b, a, r) | count << 1);
 }
 
 uint64_t plain_manager(const uint8_t *file, size_t len, uint32_t r)
 {
     struct board b;
-    struct weighed w;
-    uint64_t refusal = ask(file, len, &b, &w, r, r);
-    return refusal != 0 ? refusal | BOARD_NO_MANAGER << 16 : answer(0, ASKED, manager(&w, r));
+    uint64_t refusal = ask(file, len, &b, r, r);
+    return refusal != 0 ? refusal | BOARD_NO_MANAGER << 16 : answer(0, ASKED, b.manager[r]);
 }
 
 uint64_t plain_steps(const uint8_t *file, size_t len, uint32_t r)
 {
     struct board b;
-    struct weighed w;
-    uint64_t refusal = ask(file, len, &b, &w, r, r), n = 0;
+    uint64_t refusal = ask(file, len, &b, r, r), n = 0;
     if (refusal != 0) return refusal;
-    for (unsigned x = r; x != 0; x = manager(&w, x)) n++;
+    for (unsigned x = r; x != 0; x = b.manager[x]) n++;
     return answer(0, ASKED, n);
 }
 
 uint64_t plain_stretch(const uint8_t *file, size_t len, uint32_t role)
 {
     struct board b;
-    struct weighed w;
-    uint64_t refusal = ask(file, len, &b, &w, role, role);
+    uint64_t refusal = ask(file, len, &b, role, role);
     if (refusal != 0) return refusal;
     uint64_t start = size(b.live), count = size(b.i[role] | b.a[role]);
     if (count == 0) return 0;
@@ -335,11 +337,35 @@ uint64_t plain_stretch(const uint8_t *file, size_t len, uint32_t role)
 uint64_t plain_command(const uint8_t *file, size_t len, const struct command *c, uint8_t *out, size_t room)
 {
     struct board b;
-    struct weighed w;
-    uint8_t number = read_file(file, len, &b, &w);
+    uint8_t number = read_file(file, len, &b);
     if (number != 0) return answer(number, IN_FILE, 0);
-    number = decide(&b, &w, c);
+    number = before(&b, c);
+    if (number == 0) number = after(&b, c);
     if (number != 0) return answer(number, ASKED, 0);
     size_t written = write_file(&b, out, room);
+    return written != 0 ? answer(0, ASKED, written) : answer(12, IN_WRITING, 0);
+}
+
+uint64_t plain_found(struct board *b)
+{
+    memset(b, 0, offsetof(struct board, manager));
+    b->live = b->derives[0] = b->derivers[0] = 1;
+    memset(b->manager, BOARD_NO_MANAGER, sizeof b->manager);
+    return 0;
+}
+
+uint64_t plain_read(const uint8_t *file, size_t len, struct board *b)
+{
+    struct board next;
+    uint8_t number = read_file(file, len, &next);
+    if (number != 0) return answer(number, IN_FILE, 0);
+    *b = next;
+    return 0;
+}
+
+uint64_t plain_write(const struct board *b, uint8_t *out, size_t room, size_t at)
+{
+    if (!sound(b)) return answer(1, ASKED, 0);
+    size_t written = at <= room ? write_file(b, out + at, room - at) : 0;
     return written != 0 ? answer(0, ASKED, written) : answer(12, IN_WRITING, 0);
 }
