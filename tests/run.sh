@@ -14,7 +14,7 @@
 # SUBJECT=plain  the plain C in the library's place, compiled for this machine
 # SUBJECT=cross  the same, compiled and run as the library is
 # SEED=N         of the comparison (default 1)
-# PLAIN=walks    in bench: the plain C by the library's algorithm
+# PLAIN=walks    in bench: the plain C by a walk from each role, another algorithm
 # BUILD=DIR      for what is built (default target/tests)
 set -eu
 

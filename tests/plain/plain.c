@@ -62,7 +62,7 @@ static bool descend(const struct board *b, set down[64])
 
 #else
 
-/* The same by a walk from each role: the library's way, to tell its algorithm's cost from its compiler's. */
+/* The same by a walk from each role, to tell an algorithm's cost from a compiler's. */
 static set walk(const set rows[64], set from)
 {
     set done = 0;
