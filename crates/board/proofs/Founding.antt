@@ -5,7 +5,7 @@ use mathlib.Core.List.{_∷_}
 use Prim.Native.Nat.{ℕ, zero, suc}
 use native.Mathlib.Omega.{arith}
 use lib.Dec.{lit<}
-use lib.ListN.{getD, replicate}
+use lib.ListN.{replicate}
 use Rattle.sets.specs.Sets.{bit, _isIn_}
 use Rattle.sets.proofs.Bools.{false-no}
 use Rattle.sets.proofs.Digits.{bit-zero}
@@ -15,6 +15,7 @@ use Rattle.hierarchy.specs.Words.{Derives, LineManager, Sound}
 use Rattle.hierarchy.specs.Compute.{all, any, spread, grow, close, derived, derives?, scope?, admin?, unite, reaches?, loops?, joined?, managed?, shaped?, sound?}
 use Rattle.hierarchy.proofs.Admin.{derives-refl}
 use Rattle.hierarchy.proofs.Decide.{sound-is}
+use Rattle.hierarchy.proofs.Rows.{one-entry}
 use Rattle.board.specs.Boards.{tablesOf, foundingBoard, KeepsRight, SoundBoard}
 
 tables-sound : Sound (tablesOf foundingBoard)
@@ -29,16 +30,10 @@ root : 0 isIn 1
 unfolding bit
 root = refl
 
--- an entry of a row of nothing else, or past it
-blank : (n k d : ℕ) → getD (replicate n d) k d ≡ d
-blank zero k d = refl
-blank (suc n) zero d = refl
-blank (suc n) (suc k) d = blank n k d
-
 -- role 0 has itself in its row, and that is all
 itself : (x y : ℕ) → (y isIn row (1 ∷ replicate 63 0) x) ↔ ((x ≡ 0) × (y ≡ 0))
 itself zero y = (λ e. (refl, alone e), λ p. rw (p .1) root)
-itself (suc x) y = (λ e. absurd (false-no (ap (λ (s : ℕ). bit s y) (blank 63 x 0) ∙ bit-zero y) e), λ p. absurd (omega (arith, p .0)))
+itself (suc x) y = (λ e. absurd (false-no (ap (λ (s : ℕ). bit s y) (one-entry 63 x 0) ∙ bit-zero y) e), λ p. absurd (omega (arith, p .0)))
 
 derives-itself : (x y : ℕ) → Derives (tablesOf foundingBoard) x y ↔ ((x ≡ 0) × (y ≡ 0))
 unfolding foundingBoard
@@ -56,7 +51,7 @@ keeps-right = record {
     down-is = λ x y. Iff·trans (itself x y) (Iff·symm (derives-itself x y));
     up-is = λ x y. Iff·trans (itself y x) (Iff·symm (Iff·trans (derives-itself x y) (λ p. (p .1, p .0), λ p. (p .1, p .0))));
   };
-  managers = record { manager-rows = refl; manager-is = λ r. inr (λ m. no-manager m r, blank 64 r 64) };
+  managers = record { manager-rows = refl; manager-is = λ r. inr (λ m. no-manager m r, one-entry 64 r 64) };
 }
 
 pub founding-sound : SoundBoard foundingBoard

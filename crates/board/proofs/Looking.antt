@@ -10,7 +10,8 @@ use Rattle.sets.proofs.Members.{Taken, taken-part, taken-kept}
 use Rattle.hierarchy.specs.Tables.{Tables, tables, row, kind, Live, Shaped}
 use Rattle.hierarchy.specs.First.{First}
 use Rattle.hierarchy.specs.Words.{Joined, Loops, Managed, Sound}
-use Rattle.hierarchy.specs.Views.{InOrder, Inward, LiveLoops, RightValues, WorkedOut}
+use Rattle.hierarchy.specs.Views.{InOrder, Inward, RightValues, WorkedOut}
+use Rattle.hierarchy.proofs.Admin.{sound-loopless}
 use Rattle.hierarchy.proofs.Checks.{or-is}
 use Rattle.hierarchy.proofs.Derive.{edge-entry}
 use Rattle.hierarchy.proofs.Decide.{loops-dec, live-loops-dec, managed-dec}
@@ -85,9 +86,6 @@ late-ordered t c n order f = pass _ _ _ _ (λ k. order (k .disordered)) (pass _ 
 
 -- ---- a look
 
-pub no-live-loop : {t : Tables} → Sound t → LiveLoops t → ⊥
-no-live-loop s l = s .loopless (l .0, l .1 .1)
-
 module _ {t : Tables} {du mu d u m : List ℕ} {n : ℕ} (w : WorkedOut t du mu n d u m) where
   -- where all else is well, tables that were worked out with 0 are sound
   pub worked-sound : Shaped t → Live t 0 → Joined t → n ≡ 0 → Sound t
@@ -128,5 +126,5 @@ pub kept-is : {live : ℕ} {i a d u m down up managers : List ℕ} {r : Bool} �
     → (r ≡ true) ↔ ((d ≡ down) × ((u ≡ up) × (m ≡ managers))) → (r ≡ true) ↔ SoundBoard (boardOf live i a d u m)
 kept-is {live} {i} {a} sound worked same = (
   λ e. let h = same .0 e in record { sound = sound; right = rw (h .0, h .1 .0, h .1 .1) worked },
-  λ s. same .1 (values-unique (no-live-loop sound) (s .right) worked),
+  λ s. same .1 (values-unique (sound-loopless sound) (s .right) worked),
 )

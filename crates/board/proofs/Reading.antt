@@ -2,22 +2,15 @@
 use mathlib.Core.Path.{_≡_, refl, sym, ap, _∙_}
 use mathlib.Core.Bool.{Bool, true, false, cond}
 use mathlib.Core.Logic.{_≢_}
-use mathlib.Core.List.{List, [], _∷_}
+use mathlib.Core.List.{List}
 use Prim.Native.Nat.{ℕ, zero, suc, _+_, _<_, _≤_}
-use native.Mathlib.Nat.{not-suc-le-zero, le-of-suc-le-suc}
 use native.Mathlib.Omega.{arith}
 use lib.Dec.{ltb}
-use lib.ListN.{getD, length, List·getD-eq-default}
+use lib.ListN.{length, List·getD-eq-default}
 use borrow.Author.Tests.{eq-eqb, ne-eqb, lt-ltb, le-ltb, ltb-false}
 use Rattle.hierarchy.specs.Views.{managerAt, stepsUp}
 use Rattle.board.specs.Looks.{managerFrom}
 use Rattle.board.specs.declared.questions.Manager.the-variants.{Role, Nobody}
-
--- an entry of a row is the same whatever stands for none
-pub any-default : (l : List ℕ) (k d e : ℕ) → k < length l → getD l k d ≡ getD l k e
-any-default [] k d e h = absurd (not-suc-le-zero h)
-any-default (x ∷ l) zero d e h = refl
-any-default (x ∷ l) (suc k) d e h = any-default l k d e (le-of-suc-le-suc h)
 
 -- ---- a manager as an answer
 

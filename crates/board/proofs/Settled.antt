@@ -16,7 +16,7 @@ use Rattle.hierarchy.specs.Tables.{Tables}
 use Rattle.hierarchy.specs.Words.{Sound}
 use Rattle.hierarchy.specs.Views.{LiveLoops, RightValues}
 use Rattle.hierarchy.specs.First.{First}
-use Rattle.hierarchy.proofs.Admin.{manager-unique}
+use Rattle.hierarchy.proofs.Admin.{sound-loopless, manager-unique}
 use Rattle.hierarchy.proofs.ClimbLaws.{climb-unique}
 use Rattle.hierarchy.proofs.FirstLaws.{first-unique}
 use Rattle.hierarchy.proofs.ManagerLaws.{values-unique}
@@ -30,7 +30,6 @@ use Rattle.board.specs.declared.questions.Manager.{Manager}
 use Rattle.board.specs.declared.questions.Manager.the-variants.{Role, Nobody}
 use Rattle.board.proofs.Rules.{stable, first-done}
 use Rattle.board.proofs.Asking.{asked-sound}
-use Rattle.board.proofs.Looking.{no-live-loop}
 
 -- what comes with a number is one value where the number is 0, and one where it is not
 by-number : {A : Type 0} {x y : A} (n : ℕ) → (n ≡ 0 → x ≡ y) → (n ≢ 0 → x ≡ y) → x ≡ y
@@ -46,7 +45,7 @@ right-board {b} {d} loopless v w e =
 
 -- and so do tables and soundness.
 pub one-board : {b d : Board} → SoundBoard b → SoundBoard d → tablesOf b ≡ tablesOf d → b ≡ d
-one-board s r e = right-board (no-live-loop (s .sound)) (s .right) (r .right) e
+one-board s r e = right-board (sound-loopless (s .sound)) (s .right) (r .right) e
 
 -- Two boards that can't differ don't: they are made of numbers.
 list-stable : (xs ys : List ℕ) → ((xs ≡ ys → ⊥) → ⊥) → xs ≡ ys
@@ -119,7 +118,7 @@ module _ (b : Board) where
   scope-unique a r = answered-unique (λ _. counts-unique)
 
   pub manages-unique : (r : ℕ) → Sound (tablesOf b) → (x y : Manager) → Manages b r x → Manages b r y → x ≡ y
-  manages-unique r sound (Role m) (Role n) h g = ap Role (manager-unique (no-live-loop sound) h g)
+  manages-unique r sound (Role m) (Role n) h g = ap Role (manager-unique (sound-loopless sound) h g)
   manages-unique r sound (Role m) Nobody h g = absurd (g m h)
   manages-unique r sound Nobody (Role n) h g = absurd (h n g)
   manages-unique r sound Nobody Nobody h g = refl

@@ -78,7 +78,7 @@ pub fn derives_by(live: u64, down: &[u64; 64], x: u32, y: u32) -> Derived
     if number != 0 {
         return Derived { number, yes: false };
     }
-    let yes = has(down[x as usize], y as usize);
+    let yes = kept::derives(down, x, y);
     Derived { number, yes }
 }
 

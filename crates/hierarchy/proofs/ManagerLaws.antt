@@ -1,7 +1,7 @@
--- The line managers that a board keeps: they are settled, and read off them are a role's line manager and its steps. Assumes nothing.
+-- The line managers that a board keeps: they are settled, and a role's steps can be read off them. Assumes nothing.
 use mathlib.Core.Path.{_≡_, sym, _∙_, ap, subst}
 use mathlib.Core.Bool.{Bool, cond}
-use mathlib.Core.Logic.{inl, inr, ⊎-elim, _↔_, _≢_, dite}
+use mathlib.Core.Logic.{inl, inr, _≢_, dite}
 use mathlib.Core.List.{List}
 use Prim.Native.Nat.{ℕ, zero, suc, _+_, _<_}
 use native.Mathlib.Nat.{le-trans}
@@ -10,11 +10,10 @@ use native.Mathlib.Omega.{arith}
 use lib.Count.{ones-le}
 use lib.Seq.{ext-getD}
 use borrow.Author.Tests.{ne-eqb}
-use Rattle.sets.proofs.Laws.{bit-lt}
 use Rattle.hierarchy.specs.Tables.{Tables}
 use Rattle.hierarchy.specs.Words.{Reaches, LineManager, Sound, Climb, Climb.top, Climb.up}
 use Rattle.hierarchy.specs.Views.{LiveLoops, ManagerIs, managerAt, AreManagers, RightValues, WorkedOut, stepsUp}
-use Rattle.hierarchy.proofs.Admin.{sound-loopless, admin-live, admin-reaches, manager-unique}
+use Rattle.hierarchy.proofs.Admin.{sound-loopless, admin-reaches, manager-unique}
 use Rattle.hierarchy.proofs.ClimbLaws.{no-senior, climb-short}
 use Rattle.hierarchy.proofs.FirstLaws.{first-unique, passed}
 use Rattle.hierarchy.proofs.Order.{order-no-loop}
@@ -62,20 +61,6 @@ module _ {t : Tables} (sound : Sound t) {manager : List ℕ} (are : AreManagers 
   -- a role with a line manager has it as its entry
   pub manager-at : {m r : ℕ} → LineManager t m r → managerAt manager r ≡ m
   manager-at {m} {r} l = manager-is-unique (sound-loopless sound) (managerAt manager r) m (are .manager-is r) (inl l)
-
-  -- An entry that is a role is the line manager,
-  pub manager-read : (m r : ℕ) → m < 64 → (managerAt manager r ≡ m) ↔ LineManager t m r
-  manager-read m r h = (
-    λ q. ⊎-elim (λ l. subst (λ (k : ℕ). LineManager t k r) q l) (λ p. absurd (omega (arith, p .1))) (are .manager-is r),
-    manager-at,
-  )
-
-  -- and 64 is that there is none.
-  pub manager-none : {r : ℕ} → managerAt manager r ≡ 64 → (m : ℕ) → LineManager t m r → ⊥
-  manager-none q m l =
-      let h = bit-lt 64 (sound .shaped .live-fits) (admin-live (l .admin)) in
-      let e = manager-at l in
-      absurd (omega arith)
 
   steps-from : (f k : ℕ) {r n : ℕ} → Climb t r n → n < f → stepsUp manager f k r ≡ k + n
   unfolding stepsUp

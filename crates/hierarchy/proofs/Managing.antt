@@ -3,7 +3,7 @@ use mathlib.Core.Path.{_≡_, refl, sym, ap, _∙_, subst}
 use mathlib.Core.Bool.{Bool, true, false, not, _&&_, _||_, and-false, false≢true}
 use mathlib.Core.Logic.{_⊎_, inl, inr, ⊎-elim, ⊎-map, _↔_, _≢_, dite, Iff·trans}
 use mathlib.Core.List.{List}
-use Prim.Native.Nat.{ℕ, zero, suc, _<_, _≤_, suc-le-suc}
+use Prim.Native.Nat.{ℕ, _<_, _≤_, suc-le-suc}
 use native.Mathlib.Nat.{le-trans}
 use native.Mathlib.Decide.{ℕ-discrete}
 use native.Mathlib.Omega.{arith}
@@ -19,7 +19,7 @@ use Rattle.hierarchy.specs.Words.{Reaches, Derives, Administrator, Manag
 use Rattle.hierarchy.specs.Views.{AreViews, ScopeBy, managerAt, AreManagers}
 use Rattle.hierarchy.specs.Engine.{Above, AdminsOf, NearestIs, Orderly, Managers}
 use Rattle.hierarchy.proofs.Admin.{reaches-trans, derives-refl, derives-reaches, admin-live, admins-related, no-return}
-use Rattle.hierarchy.proofs.Rows.{entry-of, entry-set}
+use Rattle.hierarchy.proofs.Rows.{entry-of, entry-set, one-entry}
 
 -- a no that is right
 pub no-iff : {P : Type 0} → (P → ⊥) → (false ≡ true) ↔ P
@@ -176,15 +176,10 @@ pub record Filling (live : ℕ) (down up manager : List ℕ) (rest : ℕ) : Type
   pub rows : length manager ≡ 64
   pub nearest : (t : Tables) → Orderly t live down up → (r : ℕ) → bit rest r ≡ false → NearestIs t r (managerAt manager r)
 
-nobody-at : (n r : ℕ) → managerAt (replicate n 64) r ≡ 64
-nobody-at zero r = refl
-nobody-at (suc n) zero = refl
-nobody-at (suc n) (suc r) = nobody-at n r
-
 pub fill-start : (live : ℕ) (down up : List ℕ) → Filling live down up (replicate 64 64) live
 fill-start live down up = record {
   rows = refl;
-  nearest = λ t o r n. inr (λ a k. false-no n (subst (λ (s : ℕ). r isIn s) (o .live-is) (k .scope .derives .to)), nobody-at 64 r);
+  nearest = λ t o r n. inr (λ a k. false-no n (subst (λ (s : ℕ). r isIn s) (o .live-is) (k .scope .derives .to)), one-entry 64 r 64);
 }
 
 pub fill-turn : {live rest x rest′ : ℕ} {down up manager : List ℕ} (s m : ℕ) → Taken rest x rest′ → Filling live down up manager rest

@@ -16,11 +16,15 @@ use Rattle.hierarchy.specs.Tables.{row}
 use Rattle.hierarchy.specs.Views.{Turned}
 use Rattle.hierarchy.specs.Engine.{Marked}
 
+-- a list of one entry has no other, and past it there is the same
+pub one-entry : (n x d : ℕ) → getD (replicate n d) x d ≡ d
+one-entry zero x d = refl
+one-entry (suc n) zero d = refl
+one-entry (suc n) (suc x) d = one-entry n x d
+
 -- a row of the blank table has no member
 pub blank-row : (n x : ℕ) → row (replicate n 0) x ≡ 0
-blank-row zero x = refl
-blank-row (suc n) zero = refl
-blank-row (suc n) (suc x) = blank-row n x
+blank-row n x = one-entry n x 0
 
 -- within the list it is all one what stands for an entry past it
 pub entry-of : (l : List ℕ) (i d e : ℕ) → i < length l → getD l i d ≡ getD l i e

@@ -36,16 +36,12 @@ module _ {t : Tables} {down up : List ℕ} (views : AreViews t down up) where
 table-ext : {s t : List ℕ} → length s ≡ length t → ((x y : ℕ) → (y isIn row s x) ↔ (y isIn row t x)) → s ≡ t
 table-ext {s} {t} l e = ext-getD 0 s t l (λ x _. same-members (row s x) (row t x) (e x))
 
--- Tables have one pair of views,
+-- Tables have one pair of views.
 pub views-unique : {t : Tables} {down up down′ up′ : List ℕ} → AreViews t down up → AreViews t down′ up′ → (down ≡ down′) × (up ≡ up′)
 views-unique v w = (
   table-ext (v .down-rows ∙ sym (w .down-rows)) (λ x y. Iff·trans (v .down-is x y) (Iff·symm (w .down-is x y))),
   table-ext (v .up-rows ∙ sym (w .up-rows)) (λ y x. Iff·trans (v .up-is x y) (Iff·symm (w .up-is x y))),
 )
-
--- and a table is turned round in one way.
-pub turned-unique : {live : ℕ} {down u u′ : List ℕ} → Turned live down u → Turned live down u′ → u ≡ u′
-turned-unique v w = table-ext (v .up-rows ∙ sym (w .up-rows)) (λ y x. Iff·trans (v .up-is x y) (Iff·symm (w .up-is x y)))
 
 -- What live roles derive, and that turned round, are the views.
 pub turned-views : {t : Tables} {down up : List ℕ} → length down ≡ 64 → ((x y : ℕ) → (y isIn row down x) ↔ Derives t x y) → Turned (t .live) down up → AreViews t down up

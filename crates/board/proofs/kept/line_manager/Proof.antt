@@ -2,7 +2,8 @@ use mathlib.Core.Path.{sym}
 use native.Mathlib.Omega.{arith}
 use native.Mathlib.Nat.{le-refl}
 use lib.ListN.{List·getD-eq-default}
-use Rattle.board.proofs.Reading.{any-default, from-role, from-none}
+use Rattle.hierarchy.proofs.Rows.{entry-of}
+use Rattle.board.proofs.Reading.{from-role, from-none}
 use borrow.Author.Needs.{needs}
 use Rattle.board.proofs.kept.line_manager.Statement.{statement}
 use Rattle.board.proofs.kept.line_manager.Tie as tie
@@ -16,12 +17,12 @@ element-copy-out-m c = search needs
 returns : tie.Need-returns
 returns c =
     let a = c .before .before .before .before .before .args in
-    from-role _ _ (any-default (a .manager .now) (a .r) 0 64 (omega (arith, c .before .before .before .whole-row .ensures))) (c .if2 .taken)
+    from-role _ _ (entry-of (a .manager .now) (a .r) 0 64 (omega (arith, c .before .before .before .whole-row .ensures))) (c .if2 .taken)
 
 returns-2 : tie.Need-returns-2
 returns-2 c =
     let a = c .before .before .before .before .before .args in
-    from-none _ _ (any-default (a .manager .now) (a .r) 0 64 (omega (arith, c .before .before .before .whole-row .ensures))) (c .if2 .left)
+    from-none _ _ (entry-of (a .manager .now) (a .r) 0 64 (omega (arith, c .before .before .before .whole-row .ensures))) (c .if2 .left)
 
 returns-3 : tie.Need-returns-3
 returns-3 c =

@@ -1,5 +1,5 @@
 use mathlib.Core.Logic.{Iff·rfl}
-use Rattle.board.proofs.Asking.{asked, answer-refused, answer-done}
+use Rattle.board.proofs.Asking.{answer-refused, answer-done}
 use Rattle.board.proofs.Trying.{same-test}
 use borrow.Author.Needs.{needs}
 use Rattle.board.proofs.questions.derives_by.Statement.{statement}
@@ -11,19 +11,11 @@ refused-requires c κs = search needs
 returns : tie.Need-returns
 returns c = answer-refused (c .before .refused .ensures) (c .if1 .taken)
 
-mul-has : tie.Need-mul-has
-mul-has c = search needs
-
-element-copy-out-has : tie.Need-element-copy-out-has
-element-copy-out-has c = asked _ _ _ _ (c .before .refused .ensures) (c .if1 .left) .x-lt
-
-has-requires : tie.Need-has-requires
-has-requires c κs = search needs
+derives-requires : tie.Need-derives-requires
+derives-requires c κs = search needs
 
 returns-2 : tie.Need-returns-2
-returns-2 c = answer-done (c .before .before .before .refused .ensures) (c .before .before .if1 .left) (same-test (c .has .ensures) Iff·rfl)
+returns-2 c = answer-done (c .before .before .refused .ensures) (c .before .if1 .left) (same-test (c .derives .ensures) Iff·rfl)
 
 pub derives-by-spec : {M : Type 1} → statement M
-derives-by-spec =
-    tie.close
-    (tie.spec refused-requires returns mul-has element-copy-out-has has-requires returns-2)
+derives-by-spec = tie.close (tie.spec refused-requires returns derives-requires returns-2)
