@@ -38,10 +38,11 @@ extern "C" {
 
 /* ---- answers: a refusal number, where it arose, and a value, in one number */
 
-/* 0 done; 1 the board is not sound; 2 a number out of range; 3 a role isn't live; 4 the role or the edge stands
- * already; 5 there is no such edge; 6 out of the actor's scope; 7 some role would reach itself; 8 the new role would be
- * outside the actor's strict scope; 9 some role would have no administrator; 10 bad frame of the file; 11 bad record in
- * the file; 12 not enough room in `out`. The first that holds, in the order of the project's scope document. */
+/* 0 done; 1 the board is not sound; 2 a number out of range; 3 a role isn't live; 4 the role, or every part named of
+ * the edge, stands already; 5 there is no such edge, or a part to be removed is missing; 6 out of the actor's scope; 7
+ * some role would reach itself; 8 the new role would be outside the actor's strict scope; 9 some role would have no
+ * administrator; 10 bad frame of the file; 11 bad record in the file; 12 not enough room in `out`. The first that
+ * holds, in the order of the project's scope document. */
 #define BOARD_NUMBER(answer) ((uint32_t)((answer)&0xff))
 
 #define BOARD_PLACE(answer) ((uint32_t)((answer) >> 8 & 0xff))
@@ -86,8 +87,10 @@ uint64_t board_write(const struct board *b, uint8_t *out, size_t out_len, size_t
 /* ---- commands */
 
 /* Code 1 adds a role, 2 removes one, 3 adds an edge, 4 removes one, 5 changes its kind. `role` is the role of 1 and 2,
- * and the senior of 3, 4 and 5; the kind is 1 (I), 2 (A) or 3 (both). The four sets are for code 1: bit r is role r.
- * What a command doesn't use may hold anything. A number that is no role stays none: it is 2, and not cut to a role. */
+ * and the senior of 3, 4 and 5; their kind names parts of the edge: 1 (I), 2 (A) or 3 (both). Code 3 leaves what stands
+ * and what is named, so A added to I gives both; 4 takes the parts named away, and the edge goes with its last part; 5
+ * replaces the kind. The four sets are for code 1: bit r is role r. What a command doesn't use may hold anything. A
+ * number that is no role stays none: it is 2, and not cut to a role. */
 struct command {
     uint32_t code, actor, role, junior, kind;
     uint64_t a_seniors, i_seniors, a_juniors, i_juniors;
