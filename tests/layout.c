@@ -97,7 +97,7 @@ int main(void)
             if (role == 0 || !(all[k]->board.live >> role & 1)) all[k]->board.manager[role] = BOARD_NO_MANAGER;
 
     const struct command change = {5, 3, 4, 6, 2, 1, 2, 4, 8}, add = {1, 3, 9, 64, 65, 0x10, 0x8, 0x40, 0x100};
-    static const uint32_t bad[5] = {3, 6, 0, 9, 4}, number[5] = {4, 6, 5, 3, 2};
+    static const uint32_t bad[5] = {2, 6, 0, 9, 4}, number[5] = {9, 6, 5, 3, 2};
     struct command c;
     uint32_t *const field[5] = {&c.code, &c.actor, &c.role, &c.junior, &c.kind};
 

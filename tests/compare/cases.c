@@ -131,6 +131,20 @@ static void tally_wide(enum call call, const struct view *v, const struct comman
     }
 }
 
+/* What is named and what stands counts where 4 and 5 are decided, so not where 1, 2 or 3 came first. */
+static void tally_parts(enum call call, const struct view *v, const struct command *c, uint8_t number)
+{
+    if (c->code < ADD_EDGE || c->code > CHANGE_EDGE) return;
+    int code = c->code - ADD_EDGE;
+    if (number == 0 || number > 3) {
+        int stands = v->board.kind[c->role][c->junior];
+        tally.parts[call][code][c->kind][stands]++;
+        if (number == 9 && c->code == ADD_EDGE && stands != 0) tally.part_added++;
+        if (number == 9 && c->code == REMOVE_EDGE && stands != (int)c->kind) tally.part_taken++;
+    } else if (number == 2 && c->actor < ROLES && c->role < ROLES && c->junior < ROLES)
+        tally.kind_range[code][c->kind == 0 ? 0 : c->kind <= 255 ? 1 : 2]++;
+}
+
 /* A board that is lent to be changed: behind it is the wall. */
 struct lent_board {
     uint8_t before[GUARD];
@@ -161,6 +175,7 @@ uint8_t try_apply(const struct view *v, const struct board *b, const struct comm
     if (memcmp(command, c, sizeof *c) != 0) disagree("the command was touched");
 
     tally_wide(APPLY, v, c, number);
+    tally_parts(APPLY, v, c, number);
     tally.apply[code_class(c)][number]++;
     if (number == 0 && c->code == CHANGE_EDGE && memcmp(b, &want.board, sizeof *b) == 0) tally.idle_change++;
     if (number == 7 && c->code == ADD_EDGE && !v->derives[c->junior][c->role]) tally.hidden_loop++;
@@ -227,7 +242,10 @@ void try_command(const struct opened *o, const struct command *c, size_t room)
     if (memcmp(file, o->file, o->len) != 0) disagree("the file was touched");
     if (memcmp(command, c, sizeof *c) != 0) disagree("the command was touched");
 
-    if (o->number == 0) tally_wide(COMMAND, &o->view, c, BOARD_NUMBER(answer));
+    if (o->number == 0) {
+        tally_wide(COMMAND, &o->view, c, BOARD_NUMBER(answer));
+        tally_parts(COMMAND, &o->view, c, BOARD_NUMBER(answer));
+    }
     tally.command[code_class(c)][BOARD_PLACE(answer)][BOARD_NUMBER(answer)]++;
     if (BOARD_NUMBER(answer) == 0 && BOARD_VALUE(answer) == room) tally.room_exact++;
     if (BOARD_NUMBER(answer) == 12 && room == 0) tally.room_none++;

@@ -247,6 +247,7 @@ static void rare_refusals(void)
     start();
     if (draw_refused(&here, ADD_ROLE, 9, &c)) try_both(&c);
     if (draw_refused(&here, ADD_EDGE, 9, &c)) try_both(&c);
+    if (draw_part_refused(&here, ADD_EDGE, 9, &c)) try_both(&c);
     if (draw_refused(&here, CHANGE_EDGE, 9, &c)) try_both(&c);
     open_file(&opened, file, make_file(AS_WRITTEN, &here, file));
     for (int k = 0; k < 10; k++) {
@@ -257,6 +258,9 @@ static void rare_refusals(void)
     start();
     if (draw_refused(&here, ADD_ROLE, 7, &c)) try_both(&c);
     if (draw_hidden_loop(&here, &c)) try_both(&c);
+    draw_forked(&here);
+    start();
+    if (draw_part_refused(&here, REMOVE_EDGE, 9, &c)) try_both(&c);
 }
 
 /* ---- all that is largest */

@@ -18,11 +18,13 @@ void draw_full(struct view *v, bool mixed); /* 64 roles, 2,016 edges: sound what
 void draw_any(struct view *v, int most);    /* no loop, and mostly not sound */
 void draw_tied(struct view *v);             /* small, sound, and easily left with a role unmanaged */
 void draw_chained(struct view *v);          /* small, sound, with roles that reach what they don't derive */
+void draw_forked(struct view *v);           /* small, sound, with a role that one part of an edge keeps managed */
 void draw_command(const struct view *v, struct command *c);
 enum { CODE, ACTOR, ROLE, JUNIOR, KIND, FIELDS };
 uint32_t *field_of(struct command *c, int field);
 /* Draws until the model gives this number, or gives up: some numbers are rare. */
 bool draw_refused(const struct view *v, int code, int number, struct command *c);
+bool draw_part_refused(const struct view *v, int code, int number, struct command *c); /* where another kind stands */
 /* An edge whose junior reaches its senior and doesn't derive it. */
 bool draw_hidden_loop(const struct view *v, struct command *c);
 
@@ -85,9 +87,11 @@ struct tally {
     long wrong[WRONG_WAYS];
     long place[PLACES][2]; /* of a board that isn't sound, and of one that is */
     long damage[64][13];
+    long parts[2][3][4][4]; /* of apply and command, by code of an edge: kind named, kind standing */
+    long kind_range[3][3];  /* by code of an edge, 2 for the kind alone: 0, to 255, above */
     long full_roles, full_edges, longest_file, too_long_file, many_edges; /* edges of size */
     long room_exact, room_short, room_none, idle_change, most_steps;
-    long hidden_loop, seniors_in_scope; /* where a careful reader slips */
+    long hidden_loop, seniors_in_scope, part_added, part_taken; /* where a careful reader slips; the last two give 9 */
     long wide_used[2][FIELDS], wide_unused[2][FIELDS]; /* above 255, of apply and command: 2 for that alone; done */
     long wide_role[CALL_COUNT][2];                     /* above 255, first or second of a question: 2 for that alone */
 };

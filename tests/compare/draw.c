@@ -97,6 +97,21 @@ static void draw_chain(struct model *m, const int order[ROLES])
     }
 }
 
+/* Unrelated roles below 0, one of them by IA, the others by I, and each above the same role by A: take the A part of
+ * that one edge, and the role has no administrator. */
+static void draw_fork(struct model *m, const int order[ROLES])
+{
+    int tops = 2 + below(2), bottom = order[1 + tops];
+    found(m);
+    lean = 3;
+    m->live[bottom] = true;
+    for (int k = 1; k <= tops; k++) {
+        m->live[order[k]] = true;
+        m->kind[0][order[k]] = k == 1 ? 3 : 1;
+        m->kind[order[k]][bottom] = 2;
+    }
+}
+
 void draw_any(struct view *v, int most)
 {
     int order[ROLES], roles = 2 + below(most - 1);
@@ -153,6 +168,14 @@ void draw_chained(struct view *v)
     int order[ROLES];
     draw_order(order);
     draw_chain(&v->board, order);
+    look(v);
+}
+
+void draw_forked(struct view *v)
+{
+    int order[ROLES];
+    draw_order(order);
+    draw_fork(&v->board, order);
     look(v);
 }
 
@@ -410,7 +433,7 @@ static void fair_remove_role(const struct view *v, struct command *c)
     c->role = scope[below(count)];
 }
 
-static void fair_add_edge(const struct view *v, struct command *c)
+static void fair_new_edge(const struct view *v, struct command *c)
 {
     int scope[ROLES], count = roles_in_scope(v, c->actor, scope);
     bool upward = chance(20); /* a loop, mostly */
@@ -433,6 +456,15 @@ static void fair_old_edge(const struct view *v, struct command *c)
     }
 }
 
+static void fair_edge(const struct view *v, struct command *c)
+{
+    if (chance(c->code == ADD_EDGE ? 65 : 10)) fair_new_edge(v, c);
+    else fair_old_edge(v, c);
+    c->kind = 1 + below(3);
+    uint32_t standing = c->kind & v->board.kind[c->role][c->junior];
+    if (c->code == REMOVE_EDGE && standing != 0 && chance(40)) c->kind = standing; /* or too many would give 5 */
+}
+
 static uint32_t out_of_range(void) { return chance(40) ? ROLES : ROLES + below(256 - ROLES); }
 
 static void spoil_range(struct command *c)
@@ -445,7 +477,7 @@ static void spoil_range(struct command *c)
         else c->role = out_of_range();
         break;
     default:
-        if (c->code == ADD_EDGE || c->code == CHANGE_EDGE) c->kind = chance(50) ? 0 : 4 + below(chance(50) ? 1 : 252);
+        if (c->code >= ADD_EDGE) c->kind = chance(50) ? 0 : 4 + below(chance(50) ? 1 : 252);
         else c->actor = out_of_range();
     }
 }
@@ -460,8 +492,7 @@ uint32_t *field_of(struct command *c, int field)
 static void spoil_width(struct command *c)
 {
     int field = below(FIELDS);
-    if (field == KIND && c->code != ADD_EDGE && c->code != CHANGE_EDGE) field = JUNIOR;
-    if (field == JUNIOR && c->code < ADD_EDGE) field = ROLE;
+    if (field >= JUNIOR && c->code < ADD_EDGE) field = ROLE;
     *field_of(c, field) = wide(*field_of(c, field));
 }
 
@@ -540,15 +571,13 @@ static void draw_of_code(const struct view *v, int code, struct command *c)
     switch (c->code) {
     case ADD_ROLE: fair_add_role(v, c); break;
     case REMOVE_ROLE: fair_remove_role(v, c); break;
-    case ADD_EDGE: fair_add_edge(v, c); break;
-    default: fair_old_edge(v, c);
+    default: fair_edge(v, c);
     }
-    if (c->code == ADD_EDGE || c->code == CHANGE_EDGE) c->kind = 1 + below(3);
 }
 
 void draw_command(const struct view *v, struct command *c)
 {
-    static const uint8_t codes[] = {1, 1, 1, 2, 3, 3, 3, 4, 5, 5};
+    static const uint8_t codes[] = {1, 1, 1, 2, 3, 3, 3, 4, 4, 5, 5};
     if (chance(2)) { /* a code outside 1 to 5, whatever else */
         noise(c);
         if (c->code >= 1 && c->code <= 5) c->code = chance(50) ? 0 : 6;
@@ -569,14 +598,26 @@ void draw_command(const struct view *v, struct command *c)
     if (chance(5)) spoil_width(c);
 }
 
-bool draw_refused(const struct view *v, int code, int number, struct command *c)
+static bool draw_until(const struct view *v, int code, int number, bool part, struct command *c)
 {
     static struct view after;
     for (int k = 0; k < 30; k++) {
         draw_of_code(v, code, c);
+        uint32_t standing = part ? v->board.kind[c->role][c->junior] : 0;
+        if (part && (standing == 0 || standing == c->kind)) continue;
         if (decide(v, c, &after) == number) return true;
     }
     return false;
+}
+
+bool draw_refused(const struct view *v, int code, int number, struct command *c)
+{
+    return draw_until(v, code, number, false, c);
+}
+
+bool draw_part_refused(const struct view *v, int code, int number, struct command *c)
+{
+    return draw_until(v, code, number, true, c);
 }
 
 bool draw_hidden_loop(const struct view *v, struct command *c)

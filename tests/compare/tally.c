@@ -39,10 +39,11 @@ static void heading(const char *what, const char *const columns[], int count)
     printf("\n");
 }
 
+static const char *const code_name[6] = {"code outside 1 to 5", "1 add role", "2 remove role",
+                                         "3 add edge", "4 remove edge", "5 change edge"};
+
 static void commands(void)
 {
-    static const char *const name[6] = {"code outside 1 to 5", "1 add role", "2 remove role",
-                                        "3 add edge", "4 remove edge", "5 change edge"};
     static const char *const columns[] = {"0", "1", "2", "3", "4", "5", "6", "7", "8", "9"};
     static const char *const more[] = {"0", "2", "3", "4", "5", "6", "7", "8", "9", "w12", "f7", "f9", "f10", "f11"};
     static const int in_file[] = {7, 9, 10, 11};
@@ -50,13 +51,13 @@ static void commands(void)
 
     heading("board_apply", columns, 10);
     for (int code = 0; code < 6; code++) {
-        printf("%-36s", name[code]);
+        printf("%-36s", code_name[code]);
         for (int n = 0; n < 10; n++) printf("%8ld", tally.apply[code][n]);
         printf("\n");
     }
     heading("board_command (w writing, f file)", more, 14);
     for (int code = 0; code < 6; code++) {
-        printf("%-36s", name[code]);
+        printf("%-36s", code_name[code]);
         for (int n = 0; n < 10; n++)
             if (n != 1) printf("%8ld", tally.command[code][ASKED][n]);
         printf("%8ld", tally.command[code][IN_WRITING][12]);
@@ -76,6 +77,35 @@ static void commands(void)
         for (int k = 0; k < 4 && code > 0; k++) {
             sprintf(what, "code %d, file gives %d", code, in_file[k]);
             need(tally.command[code][IN_FILE][in_file[k]], "board_command", what);
+        }
+    }
+}
+
+/* What an edge command names and what stands there, from apply and from command each. */
+static void parts(void)
+{
+    static const char *const kind[] = {"none", "I", "A", "IA"}, *const range[] = {"0", "to 255", "above"};
+    static const char *const columns[] = {"none", "I", "A", "IA", "c none", "c I", "c A", "c IA"};
+    char what[40], of[40];
+    heading("kind named, standing (c command)", columns, 8);
+    for (int row = 0; row < 9; row++) {
+        int code = row / 3, named = 1 + row % 3;
+        sprintf(what, "%s, %s", code_name[ADD_EDGE + code], kind[named]);
+        printf("%-36s", what);
+        for (int k = 0; k < 8; k++) printf("%8ld", tally.parts[k / 4][code][named][k % 4]);
+        printf("\n");
+        for (int k = 0; k < 8; k++) {
+            sprintf(of, "where %s stands, %s", kind[k % 4], call_name[k / 4]);
+            need(tally.parts[k / 4][code][named][k % 4], what, of);
+        }
+    }
+    heading("kind out of range, so 2", range, 3);
+    for (int code = 0; code < 3; code++) {
+        const long *count = tally.kind_range[code];
+        printf("%-36s%8ld%8ld%8ld\n", code_name[ADD_EDGE + code], count[0], count[1], count[2]);
+        for (int k = 0; k < 3; k++) {
+            sprintf(of, "kind %s, so 2", range[k]);
+            need(count[k], code_name[ADD_EDGE + code], of);
         }
     }
 }
@@ -178,6 +208,8 @@ static void sizes(void)
         {"change to the same kind, done", tally.idle_change},
         {"loop, junior not deriving senior", tally.hidden_loop},
         {"out of scope, all seniors in it", tally.seniors_in_scope},
+        {"9 for a part added to an edge", tally.part_added},
+        {"9 for a part taken, edge stays", tally.part_taken},
     };
     printf("edges of size, and slips\n");
     for (size_t k = 0; k < sizeof line / sizeof line[0]; k++) {
@@ -229,6 +261,7 @@ int print_tally(long least)
     wanting = 0;
     printf("\n");
     commands();
+    parts();
     unsound_boards();
     reading_and_writing();
     questions();

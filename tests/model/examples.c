@@ -1,4 +1,4 @@
-/* The scope document's examples, on any implementation of board.h. */
+/* The scope document's examples, and some of an edge's parts, on any implementation of board.h. */
 #include "model.h"
 #include <stdio.h>
 #include <string.h>
@@ -127,6 +127,43 @@ static struct command edge(int code, int actor, int senior, int junior, int kind
     return (struct command){.code = code, .actor = actor, .role = senior, .junior = junior, .kind = kind};
 }
 
+static void becomes(const char *what, const struct board *b, const char *edges)
+{
+    struct board want = board_of(edges);
+    expect(what, memcmp(b, &want, sizeof want) != 0, false);
+}
+
+/* From 0 I 1: role 0 alone administers role 1, so the last part of that edge has to stay. */
+static void part_by_part(void)
+{
+    struct board i = board_of("0 I 1"), both, a, b;
+    both = gives("A added to I", i, edge(3, 0, 0, 1, 2), 0);
+    becomes("A added to I", &both, "0 IA 1");
+    a = gives("I removed from IA", both, edge(4, 0, 0, 1, 1), 0);
+    becomes("I removed from IA", &a, "0 A 1");
+    b = gives("A removed from IA", both, edge(4, 0, 0, 1, 2), 0);
+    becomes("A removed from IA", &b, "0 I 1");
+    b = gives("IA added to A", a, edge(3, 0, 0, 1, 3), 0);
+    becomes("IA added to A", &b, "0 IA 1");
+    gives("A added to A", a, edge(3, 0, 0, 1, 2), 4);
+    gives("A added to IA", both, edge(3, 0, 0, 1, 2), 4);
+    gives("IA removed from A", a, edge(4, 0, 0, 1, 3), 5);
+    gives("I removed from A", a, edge(4, 0, 0, 1, 1), 5);
+    gives("I removed where no edge stands", a, edge(4, 0, 1, 0, 1), 5);
+    gives("I removed from I", i, edge(4, 0, 0, 1, 1), 9);
+    gives("IA removed from IA", both, edge(4, 0, 0, 1, 3), 9);
+    gives("kind 0 removed", both, edge(4, 0, 0, 1, 0), 2);
+    gives("kind 4 removed", both, edge(4, 0, 0, 1, 4), 2);
+    b = gives("A changed into I", a, edge(5, 0, 0, 1, 1), 0);
+    becomes("A changed into I", &b, "0 I 1");
+
+    /* the edge goes with its last part: 1 administers 2 besides */
+    b = gives("the last part removed", board_of("0 I 1, 0 I 2, 1 A 2"), edge(4, 0, 0, 2, 1), 0);
+    becomes("the last part removed", &b, "0 I 1, 1 A 2");
+    /* and a part can be the one that counts: without it 0 doesn't derive 3, and 1 and 2 are unrelated */
+    gives("3 left to 1 and 2", board_of("0 IA 1, 0 I 2, 1 A 3, 2 A 3"), edge(4, 0, 0, 1, 2), 9);
+}
+
 int wrong_examples(const char *whose, const struct calls *of)
 {
     struct board p, w, l, founding, b;
@@ -192,6 +229,9 @@ int wrong_examples(const char *whose, const struct calls *of)
     about(&b);
     manager(3, 0);
     gives("W with 2 I 3, 0 changes it into A", b, edge(5, 0, 2, 3, 2), 9);
+    gives("W with 2 I 3, 0 adds A to it", b, edge(3, 0, 2, 3, 2), 9);
+
+    part_by_part();
 
     c = add_role(0, 63);
     c.i_seniors = 1;

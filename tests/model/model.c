@@ -4,13 +4,24 @@
 
 bool in(uint64_t set, int role) { return set >> role & 1; }
 
+/* ---- kinds: sets of the parts I and A */
+
+static bool has_i(uint32_t kind) { return kind == 1 || kind == 3; }
+static bool has_a(uint32_t kind) { return kind == 2 || kind == 3; }
+static uint8_t kind_of(bool i, bool a) { return (i ? 1 : 0) + (a ? 2 : 0); }
+static uint8_t united(uint32_t h, uint32_t k) { return kind_of(has_i(h) || has_i(k), has_a(h) || has_a(k)); }
+static uint8_t less(uint32_t h, uint32_t k) { return kind_of(has_i(h) && !has_i(k), has_a(h) && !has_a(k)); }
+static bool within(uint32_t k, uint32_t h) { return (!has_i(k) || has_i(h)) && (!has_a(k) || has_a(h)); }
+
+/* ---- board records */
+
 void from_board(const struct board *b, struct view *v)
 {
     struct model *m = &v->board;
     for (int x = 0; x < ROLES; x++) {
         m->live[x] = in(b->live, x);
         for (int y = 0; y < ROLES; y++)
-            m->kind[x][y] = (in(b->i[x], y) ? 1 : 0) + (in(b->a[x], y) ? 2 : 0);
+            m->kind[x][y] = kind_of(in(b->i[x], y), in(b->a[x], y));
         v->stored.derives[x] = b->derives[x];
         v->stored.derivers[x] = b->derivers[x];
         v->stored.manager[x] = b->manager[x];
@@ -30,8 +41,8 @@ void to_board(const struct view *v, struct board *b)
         for (int y = 0; y < ROLES; y++) {
             uint8_t kind = m->kind[x][y];
             if (kind == 0) continue;
-            b->i[x] |= (uint64_t)(kind == 1 || kind == 3) << y;
-            b->a[x] |= (uint64_t)(kind == 2 || kind == 3) << y;
+            b->i[x] |= (uint64_t)has_i(kind) << y;
+            b->a[x] |= (uint64_t)has_a(kind) << y;
         }
     }
 }
@@ -245,10 +256,9 @@ struct change {
 };
 
 static bool edge_command(const struct command *c) { return c->code >= ADD_EDGE && c->code <= CHANGE_EDGE; }
-static bool takes_kind(const struct command *c) { return c->code == ADD_EDGE || c->code == CHANGE_EDGE; }
 static bool is_senior(const struct command *c, int x) { return in(c->a_seniors, x) || in(c->i_seniors, x); }
 static bool is_junior(const struct command *c, int x) { return in(c->a_juniors, x) || in(c->i_juniors, x); }
-static uint8_t kind_in(uint64_t i, uint64_t a, int x) { return (in(i, x) ? 1 : 0) + (in(a, x) ? 2 : 0); }
+static uint8_t kind_in(uint64_t i, uint64_t a, int x) { return kind_of(in(i, x), in(a, x)); }
 
 static void effect(struct model *m, const struct command *c)
 {
@@ -268,8 +278,8 @@ static void effect(struct model *m, const struct command *c)
             m->kind[x][r] = 0;
         }
         break;
-    case ADD_EDGE: m->kind[r][c->junior] = c->kind; break;
-    case REMOVE_EDGE: m->kind[r][c->junior] = 0; break;
+    case ADD_EDGE: m->kind[r][c->junior] = united(m->kind[r][c->junior], c->kind); break;
+    case REMOVE_EDGE: m->kind[r][c->junior] = less(m->kind[r][c->junior], c->kind); break;
     case CHANGE_EDGE: m->kind[r][c->junior] = c->kind; break;
     }
 }
@@ -294,7 +304,7 @@ static bool malformed(struct change *g)
     if (c->code < ADD_ROLE || c->code > CHANGE_EDGE) return true;
     if (c->actor >= ROLES || c->role >= ROLES) return true;
     if (edge_command(c) && c->junior >= ROLES) return true;
-    return takes_kind(c) && (c->kind < 1 || c->kind > 3);
+    return edge_command(c) && (c->kind < 1 || c->kind > 3);
 }
 
 static bool missing(struct change *g)
@@ -309,17 +319,19 @@ static bool missing(struct change *g)
     return false;
 }
 
+/* The kind that stands between the roles of an edge command, 0 where there is no edge. */
+static uint8_t kind_there(struct change *g) { return g->before->board.kind[g->c->role][g->c->junior]; }
+
 static bool standing(struct change *g)
 {
-    const struct model *m = &g->before->board;
-    if (g->c->code == ADD_ROLE) return m->live[g->c->role];
-    return g->c->code == ADD_EDGE && m->kind[g->c->role][g->c->junior] != 0;
+    if (g->c->code == ADD_ROLE) return g->before->board.live[g->c->role];
+    return g->c->code == ADD_EDGE && within(g->c->kind, kind_there(g));
 }
 
-static bool no_edge(struct change *g)
+static bool not_there(struct change *g)
 {
-    bool needed = g->c->code == REMOVE_EDGE || g->c->code == CHANGE_EDGE;
-    return needed && g->before->board.kind[g->c->role][g->c->junior] == 0;
+    if (g->c->code == REMOVE_EDGE) return !within(g->c->kind, kind_there(g));
+    return g->c->code == CHANGE_EDGE && kind_there(g) == 0;
 }
 
 static bool out_of_scope(struct change *g)
@@ -350,7 +362,7 @@ static const struct {
     {2, malformed},
     {3, missing},
     {4, standing},
-    {5, no_edge},
+    {5, not_there},
     {6, out_of_scope},
     {7, would_loop},
     {8, new_outside},

@@ -136,6 +136,12 @@ static inline bool in_strict_scope(const struct board *b, unsigned a, unsigned r
 
 /* ---- commands */
 
+/* A kind is a set of parts, bit 0 for I and bit 1 for A. */
+static inline unsigned kind_of(const struct board *b, unsigned senior, unsigned junior)
+{
+    return has(b->i[senior], junior) | has(b->a[senior], junior) << 1;
+}
+
 static bool allowed(const struct board *b, const struct command *c)
 {
     switch (c->code) {
@@ -151,20 +157,24 @@ static bool allowed(const struct board *b, const struct command *c)
 /* What refuses a command on a sound board before it is changed, or 0. */
 static uint8_t before(const struct board *b, const struct command *c)
 {
-    bool on_edge = c->code >= ADD_EDGE, has_kind = on_edge && c->code != REMOVE_EDGE;
+    bool on_edge = c->code >= ADD_EDGE;
     set named = only(c->actor & 63);
 
     if (c->code < ADD_ROLE || c->code > CHANGE_EDGE || c->actor > 63 || c->role > 63) return 2;
-    if ((on_edge && c->junior > 63) || (has_kind && (c->kind < 1 || c->kind > 3))) return 2;
+    if (on_edge && (c->junior > 63 || c->kind < 1 || c->kind > 3)) return 2;
 
     if (c->code == ADD_ROLE) named |= c->a_seniors | c->i_seniors | c->a_juniors | c->i_juniors;
     else named |= only(c->role);
     if (on_edge) named |= only(c->junior);
     if (named & ~b->live) return 3;
 
-    bool stands = on_edge ? has(b->i[c->role] | b->a[c->role], c->junior) : has(b->live, c->role);
-    if ((c->code == ADD_ROLE || c->code == ADD_EDGE) && stands) return 4;
-    if ((c->code == REMOVE_EDGE || c->code == CHANGE_EDGE) && !stands) return 5;
+    if (c->code == ADD_ROLE && has(b->live, c->role)) return 4;
+    if (on_edge) {
+        unsigned stands = kind_of(b, c->role, c->junior), missing = c->kind & ~stands;
+        if (c->code == ADD_EDGE && missing == 0) return 4;
+        if (c->code == REMOVE_EDGE && missing != 0) return 5;
+        if (c->code == CHANGE_EDGE && stands == 0) return 5;
+    }
     return allowed(b, c) ? 0 : 6;
 }
 
@@ -193,7 +203,8 @@ static void change(struct board *b, const struct command *c)
             b->a[x] &= ~only(r);
         }
         break;
-    case REMOVE_EDGE: put_kind(b, r, c->junior, 0); break;
+    case ADD_EDGE: put_kind(b, r, c->junior, kind_of(b, r, c->junior) | c->kind); break;
+    case REMOVE_EDGE: put_kind(b, r, c->junior, kind_of(b, r, c->junior) & ~c->kind); break;
     default: put_kind(b, r, c->junior, c->kind);
     }
 }
