@@ -180,15 +180,15 @@ module _ (c : Command) (s j : ℕ) (p o : Bool) (x y : ℕ) where
   unfolding entry
   entry-2 e = rw e
 
-  entry-3 : c .code ≡ 3 → entry c s j p o x y ≡ (o || (pair c x y && p))
+  pub entry-3 : c .code ≡ 3 → entry c s j p o x y ≡ (o || (pair c x y && p))
   unfolding entry
   entry-3 e = rw e
 
-  entry-4 : c .code ≡ 4 → entry c s j p o x y ≡ (o && not (pair c x y))
+  pub entry-4 : c .code ≡ 4 → entry c s j p o x y ≡ (o && not (pair c x y && p))
   unfolding entry
   entry-4 e = rw e
 
-  entry-5 : c .code ≡ 5 → entry c s j p o x y ≡ cond (pair c x y) p o
+  pub entry-5 : c .code ≡ 5 → entry c s j p o x y ≡ cond (pair c x y) p o
   unfolding entry
   entry-5 e = rw e
 
@@ -252,11 +252,14 @@ module _ (c : Command) (s j : ℕ) (p : Bool) (t : List ℕ) where
         ∙ (rw (d, and-true (pair c x y)))
         ∙ sym (entry-3 c s j p o x y e))
 
-    pub unlinks : c .code ≡ 4 → (r : List ℕ) → Entered t k (c .junior) false r → r ≡ tableAfter c s j p t
-    unlinks e r h = table-is c s j p t r (h .whole)
+    pub unlinks : c .code ≡ 4 → p ≡ true → (r : List ℕ) → Entered t k (c .junior) false r → r ≡ tableAfter c s j p t
+    unlinks e d r h = table-is c s j p t r (h .whole)
         (λ x y l m.
         let o = bit (row t x) y in
-        paired false r h x y l m ∙ sym (put-out o (pair c x y) false refl) ∙ sym (entry-4 c s j p o x y e))
+        paired false r h x y l m
+        ∙ sym (put-out o (pair c x y) false refl)
+        ∙ (rw (d, and-true (pair c x y)))
+        ∙ sym (entry-4 c s j p o x y e))
 
     pub changes : c .code ≡ 5 → (r : List ℕ) → Entered t k (c .junior) p r → r ≡ tableAfter c s j p t
     changes e r h = table-is c s j p t r (h .whole) (λ x y l m. paired p r h x y l m ∙ sym (entry-5 c s j p (bit (row t x) y) x y e))
@@ -270,13 +273,16 @@ module _ (c : Command) (s j : ℕ) (p : Bool) (t : List ℕ) where
           rw (eqb-true x (c .role) (and-left (eqb x (c .role)) (eqb y (c .junior)) d), eqb-true y (c .junior) (and-right (eqb x (c .role)) (eqb y (c .junior)) d)) h
       here x y false d = refl
 
-  pub keeps : c .code ≢ 1 → c .code ≢ 2 → (c .code ≡ 3 → p ≡ false) → c .code ≢ 4 → c .code ≢ 5 → IsTable t → t ≡ tableAfter c s j p t
+  pub keeps : c .code ≢ 1 → c .code ≢ 2 → (c .code ≡ 3 → p ≡ false) → (c .code ≡ 4 → p ≡ false) → c .code ≢ 5 → IsTable t → t ≡ tableAfter c s j p t
   keeps e1 e2 e3 e4 e5 whole = table-is c s j p t t whole
       (λ x y l m.
       let o = bit (row t x) y in
       ⊎-elim
-      (λ e. sym (entry-3 c s j p o x y (eqb-true (c .code) 3 e) ∙ rw (e3 (eqb-true (c .code) 3 e), and-false (pair c x y), or-false o)))
-      (λ e. sym (entry-else c s j p o x y e1 e2 (eqb-false (c .code) 3 e) e4 e5))
+      (λ e. let n = eqb-true (c .code) 3 e in sym (entry-3 c s j p o x y n ∙ rw (e3 n, and-false (pair c x y), or-false o)))
+      (λ d. ⊎-elim
+      (λ e. let n = eqb-true (c .code) 4 e in sym (entry-4 c s j p o x y n ∙ rw (e4 n, and-false (pair c x y), and-true o)))
+      (λ e. sym (entry-else c s j p o x y e1 e2 (eqb-false (c .code) 3 d) (eqb-false (c .code) 4 e) e5))
+      (true-or-false (eqb (c .code) 4)))
       (true-or-false (eqb (c .code) 3)))
 
 -- ---- the live roles, and all three

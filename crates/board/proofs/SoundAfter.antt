@@ -10,7 +10,7 @@ use borrow.Author.Tests.{eqb-true, eqb-false, eq-eqb, ne-eqb, le-leb, not-true}
 use Rattle.sets.specs.Sets.{bit, _isIn_}
 use Rattle.sets.proofs.Bools.{true-or-false, or-cases, or-left, or-right, and-left, and-right, false-no, lt-or-ge}
 use Rattle.sets.proofs.Laws.{setOf-fits, bit-setOf}
-use Rattle.hierarchy.specs.Tables.{Tables, tables, Live, Shaped, IsTable, row, kindOf, kind}
+use Rattle.hierarchy.specs.Tables.{Tables, tables, Live, Shaped, IsTable, row}
 use Rattle.hierarchy.specs.Words.{Scope, Joined, Sound}
 use Rattle.hierarchy.specs.First.{First}
 use Rattle.hierarchy.proofs.Admin.{admin-reaches}
@@ -22,6 +22,7 @@ use Rattle.board.specs.Commands.{asSenior, asJunior, needed, strictly, M
 use Rattle.board.specs.declared.Command.{Command}
 use Rattle.board.proofs.Rules.{stable, first-done}
 use Rattle.board.proofs.Edits.{table-length, table-fits, in-table, entry-1, entry-2, entry-other, idles, living, tables-are}
+use Rattle.board.proofs.Parts.{bit-i, bit-a}
 
 -- ---- the shape, by construction
 
@@ -179,25 +180,10 @@ sound-after b c sound f =
 
 -- ---- changing an edge to the kind it has
 
-i-part : (p q : Bool) → p ≡ hasI (kindOf p q)
-i-part true true = refl
-i-part true false = refl
-i-part false true = refl
-i-part false false = refl
-
-a-part : (p q : Bool) → q ≡ hasA (kindOf p q)
-a-part true true = refl
-a-part true false = refl
-a-part false true = refl
-a-part false false = refl
-
 -- It leaves the very tables.
 pub idle-change : (b : Tables) (c : Command) → Shaped b → c .code ≡ 5 → edgeKind b c ≡ c .kind → after b c ≡ b
-unfolding kind
 idle-change b c shaped e same =
-    let p = bit (row (b .i) (c .role)) (c .junior) in
-    let q = bit (row (b .a) (c .role)) (c .junior) in
     sym (tables-are b c (b .live) (b .i) (b .a) (hasI (c .kind)) (hasA (c .kind))
     (living c (b .live) (b .live) (shaped .live-fits) (λ k. absurd (omega arith)) (λ k. absurd (omega arith)) (λ x. refl))
-    refl (idles c _ _ _ (b .i) e (i-part p q ∙ ap hasI same) record { rows = shaped .i-rows; fits = shaped .i-fits })
-    refl (idles c _ _ _ (b .a) e (a-part p q ∙ ap hasA same) record { rows = shaped .a-rows; fits = shaped .a-fits }))
+    refl (idles c _ _ _ (b .i) e (bit-i b (c .role) (c .junior) ∙ ap hasI same) record { rows = shaped .i-rows; fits = shaped .i-fits })
+    refl (idles c _ _ _ (b .a) e (bit-a b (c .role) (c .junior) ∙ ap hasA same) record { rows = shaped .a-rows; fits = shaped .a-fits }))

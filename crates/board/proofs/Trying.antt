@@ -7,8 +7,8 @@ use Prim.Native.Nat.{ℕ, _^_, _≤_, _<_}
 use native.Mathlib.Decide.{ℕ-discrete}
 use native.Mathlib.Omega.{arith}
 use lib.Count.{trailingZeros}
-use lib.Dec.{eqb, leb}
-use borrow.Author.Tests.{eqb-true, eqb-false, eq-eqb, ne-eqb, leb-true, le-leb, not-true}
+use lib.Dec.{eqb}
+use borrow.Author.Tests.{eqb-true, eqb-false, eq-eqb, ne-eqb, le-leb, not-true}
 use Rattle.sets.specs.Sets.{bit, _isIn_, _areIn_, same?}
 use Rattle.sets.proofs.Bools.{true-or-false, or-cases, or-left, or-right, and-left, and-right, and-both, false-no, lt-or-ge, not-so}
 use Rattle.sets.proofs.Digits.{bit-zero}
@@ -16,14 +16,14 @@ use Rattle.sets.proofs.Laws.{same-is, same-eq, bit-lowest}
 use Rattle.hierarchy.specs.Tables.{Tables, row}
 use Rattle.hierarchy.specs.First.{First}
 use Rattle.hierarchy.specs.Views.{AreViews}
-use Rattle.hierarchy.proofs.Checks.{and-is, or-is, not-is, eq-is}
+use Rattle.hierarchy.proofs.Checks.{and-is, or-is, if-is, not-is, eq-is}
 use Rattle.hierarchy.proofs.Derive.{edge-entry}
 use Rattle.hierarchy.proofs.FirstLaws.{hit, pass, none}
 use Rattle.hierarchy.proofs.ViewLaws.{admin-by}
 use Rattle.board.specs.Boards.{tablesOf, KeepsRight, SoundBoard}
-use Rattle.board.specs.Commands.{NamesKind, Malformed, asSenior, asJunior, needed, Missing, edgeKind, Standing, NoEdge, scoped, strictly, InScope, Outside, before, DecidedBy, Decided}
-use Rattle.board.specs.Commands.{Malformed.no-code, Malformed.no-actor, Malformed.no-role, Malformed.no-junior, Malformed.no-kind, Standing.role, Standing.edge}
-use Rattle.board.specs.Effects.{after}
+use Rattle.board.specs.Commands.{Malformed, asSenior, asJunior, needed, Missing, edgeKind, PartsStand, Standing, NoEdge, scoped, strictly, InScope, Outside, before, DecidedBy, Decided}
+use Rattle.board.specs.Commands.{Malformed.no-code, Malformed.no-actor, Malformed.no-role, Malformed.no-junior, Malformed.no-kind, Standing.role, Standing.edge, NoEdge.no-part, NoEdge.no-edge}
+use Rattle.board.specs.Effects.{hasI, hasA, after}
 use Rattle.board.specs.Looks.{OutsideBy, late}
 use Rattle.board.specs.declared.Board.{Board}
 use Rattle.board.specs.declared.Command.{Command}
@@ -39,7 +39,7 @@ always p = (λ e. p, λ q. refl)
 
 -- what is in range is not malformed
 pub ranged : (c : Command) → 1 ≤ c .code → c .code ≤ 5 → c .actor ≤ 63 → c .role ≤ 63 → (3 ≤ c .code → c .junior ≤ 63)
-    → (NamesKind c → (1 ≤ c .kind) × (c .kind ≤ 3)) → Malformed c → ⊥
+    → (3 ≤ c .code → (1 ≤ c .kind) × (c .kind ≤ 3)) → Malformed c → ⊥
 ranged c l h a r j k (no-code (inl w)) = omega arith
 ranged c l h a r j k (no-code (inr w)) = omega arith
 ranged c l h a r j k (no-actor w) = omega arith
@@ -47,9 +47,6 @@ ranged c l h a r j k (no-role w) = omega arith
 ranged c l h a r j k (no-junior n w) = omega (arith, j n)
 ranged c l h a r j k (no-kind n (inl w)) = let q = k n in omega arith
 ranged c l h a r j k (no-kind n (inr w)) = let q = k n in omega arith
-
-pub names-kind : (c : Command) → 3 ≤ c .code → c .code ≤ 5 → c .code ≢ 4 → NamesKind c
-names-kind c l h n = dite (ℕ-discrete (c .code) 3) inl (λ k. inr (omega arith))
 
 -- and the other way round
 module _ (c : Command) (formed : Malformed c → ⊥) where
@@ -168,15 +165,19 @@ in-scope-alike c h = (
 
 -- ---- rows 4 and 5
 
-module _ (c : Command) (linked live : Bool) where
-  pub standing-1 : c .code ≡ 1 → live ≡ ((eqb (c .code) 1 && live) || (eqb (c .code) 3 && linked))
-  standing-1 e = rw e (sym (or-false live))
+-- of two tests the code picks one, or none
+module _ (code m n : ℕ) (p q : Bool) where
+  abbrev picked : Bool
+  picked = (eqb code m && p) || (eqb code n && q)
 
-  pub standing-3 : c .code ≡ 3 → linked ≡ ((eqb (c .code) 1 && live) || (eqb (c .code) 3 && linked))
-  standing-3 e = rw e
+  pub picks-first : code ≡ m → m ≢ n → p ≡ picked
+  picks-first e d = rw (e, eq-eqb m m refl, ne-eqb m n d) (sym (or-false p))
 
-  pub standing-else : c .code ≢ 1 → c .code ≢ 3 → false ≡ ((eqb (c .code) 1 && live) || (eqb (c .code) 3 && linked))
-  standing-else n1 n3 = rw (ne-eqb (c .code) 1 n1, ne-eqb (c .code) 3 n3)
+  pub picks-second : code ≡ n → n ≢ m → q ≡ picked
+  picks-second e d = rw (e, eq-eqb n n refl, ne-eqb n m d)
+
+  pub picks-none : code ≢ m → code ≢ n → false ≡ picked
+  picks-none d e = rw (ne-eqb code m d, ne-eqb code n e)
 
 -- ---- the rows as the table says them
 
@@ -191,22 +192,31 @@ module _ (b : Tables) (c : Command) where
       let a = bit (row (b .a) (c .role)) (c .junior) in
       (λ t. e .1 (or-cases i a (sym h ∙ t)), λ n. h ∙ ⊎-elim (or-left i a) (or-right i a) (e .0 n))
 
-  module _ {linked : Bool} (is : (linked ≡ true) ↔ (edgeKind b c ≢ 0)) where
-    pub standing-row : {r : Bool} → r ≡ ((eqb (c .code) 1 && bit (b .live) (c .role)) || (eqb (c .code) 3 && linked)) → (r ≡ true) ↔ Standing b c
-    standing-row h = same-test h (Iff·trans (or-is (and-is (eq-is (c .code) 1) (λ _. Iff·rfl)) (and-is (eq-is (c .code) 3) (λ _. is))) (
+  pub parts-row : {parts : Bool}
+      → parts ≡ ((not (hasI (c .kind)) || bit (row (b .i) (c .role)) (c .junior)) && (not (hasA (c .kind)) || bit (row (b .a) (c .role)) (c .junior)))
+      → (parts ≡ true) ↔ PartsStand b c
+  parts-row h = same-test h (Iff·trans (and-is (if-is Iff·rfl Iff·rfl) (λ _. if-is Iff·rfl Iff·rfl)) (λ w. record { i = w .0; a = w .1 }, λ s. (s .i, s .a)))
+
+  module _ {parts : Bool} (stand : (parts ≡ true) ↔ PartsStand b c) where
+    pub standing-row : {r : Bool} → r ≡ ((eqb (c .code) 1 && bit (b .live) (c .role)) || (eqb (c .code) 3 && parts)) → (r ≡ true) ↔ Standing b c
+    standing-row h = same-test h (Iff·trans (or-is (and-is (eq-is (c .code) 1) (λ _. Iff·rfl)) (and-is (eq-is (c .code) 3) (λ _. stand))) (
       ⊎-elim (λ w. role (w .0) (w .1)) (λ w. edge (w .0) (w .1)),
       rows,
     ))
       where
-        rows : Standing b c → ((c .code ≡ 1) × (c .role isIn b .live)) ⊎ ((c .code ≡ 3) × (edgeKind b c ≢ 0))
+        rows : Standing b c → ((c .code ≡ 1) × (c .role isIn b .live)) ⊎ ((c .code ≡ 3) × PartsStand b c)
         rows (role e m) = inl (e, m)
         rows (edge e n) = inr (e, n)
 
-    pub no-edge-row : {r : Bool} → r ≡ (leb 4 (c .code) && not linked) → (r ≡ true) ↔ NoEdge b c
-    no-edge-row h = same-test h (Iff·trans (and-is (leb-true 4 (c .code), le-leb 4 (c .code)) (λ _. not-is is)) (
-      λ w. record { names = w .0; none = stable (ℕ-discrete (edgeKind b c) 0) (w .1) },
-      λ n. (n .names, λ k. k (n .none)),
+    pub no-edge-row : {linked r : Bool} → (linked ≡ true) ↔ (edgeKind b c ≢ 0) → r ≡ ((eqb (c .code) 4 && not parts) || (eqb (c .code) 5 && not linked)) → (r ≡ true) ↔ NoEdge b c
+    no-edge-row is h = same-test h (Iff·trans (or-is (and-is (eq-is (c .code) 4) (λ _. not-is stand)) (and-is (eq-is (c .code) 5) (λ _. not-is is))) (
+      ⊎-elim (λ w. no-part (w .0) (w .1)) (λ w. no-edge (w .0) (stable (ℕ-discrete (edgeKind b c) 0) (w .1))),
+      rows,
     ))
+      where
+        rows : NoEdge b c → ((c .code ≡ 4) × (PartsStand b c → ⊥)) ⊎ ((c .code ≡ 5) × ((edgeKind b c ≢ 0) → ⊥))
+        rows (no-part e n) = inl (e, n)
+        rows (no-edge e z) = inr (e, λ k. k z)
 
   pub outside-row : {down up : List ℕ} → AreViews b down up → OutsideBy down up c ↔ Outside b c
   outside-row v = (λ o. record { adds = o .adds; outside = λ a. o .outside (admin-by v .1 a) }, λ o. record { adds = o .adds; outside = λ a. o .outside (admin-by v .0 a) })

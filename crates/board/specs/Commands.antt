@@ -6,22 +6,19 @@ use mathlib.Core.List.{List, [], _∷_, _++_}
 use Prim.Native.Nat.{ℕ, _≤_, _<_}
 use lib.Dec.{eqb, leb}
 use Rattle.sets.specs.Sets.{bit, _isIn_}
-use Rattle.hierarchy.specs.Tables.{Tables, kind}
+use Rattle.hierarchy.specs.Tables.{Tables, row, kind}
 use Rattle.hierarchy.specs.Words.{Scope, Administrator, Loops, Managed}
 use Rattle.hierarchy.specs.First.{First}
 use Rattle.board.specs.Boards.{tablesOf, SoundBoard}
-use Rattle.board.specs.Effects.{after}
+use Rattle.board.specs.Effects.{hasI, hasA, after}
 use Rattle.board.specs.declared.Board.{Board}
 use Rattle.board.specs.declared.Command.{Command}
 
 -- ---- the fields that a command uses
 
--- commands 3, 4 and 5 name a senior (in `role`) and a junior; 3 and 5 name a kind too
+-- commands 3, 4 and 5 name a senior (in `role`), a junior and a kind
 abbrev pub NamesEdge : Command → Type 0
 NamesEdge c = 3 ≤ c .code
-
-abbrev pub NamesKind : Command → Type 0
-NamesKind c = (c .code ≡ 3) ⊎ (c .code ≡ 5)
 
 -- ---- row 2: a number out of its range, in a field that is used
 
@@ -30,7 +27,7 @@ pub data Malformed (c : Command) : Type 0 where
   no-actor : 63 < c .actor → Malformed c
   no-role : 63 < c .role → Malformed c
   no-junior : NamesEdge c → 63 < c .junior → Malformed c
-  no-kind : NamesKind c → (c .kind < 1) ⊎ (3 < c .kind) → Malformed c
+  no-kind : NamesEdge c → (c .kind < 1) ⊎ (3 < c .kind) → Malformed c
 
 -- ---- row 3: a role that must exist isn't live
 
@@ -53,18 +50,25 @@ pub record Missing (t : Tables) (c : Command) : Type 0 where
   pub is-needed : needed c who ≡ true
   pub absent : bit (t .live) who ≡ false
 
--- ---- rows 4 and 5: the new role or the edge stands already; there is no edge
+-- ---- rows 4 and 5, an edge taken by its parts as request 2 has it
 
 abbrev pub edgeKind : Tables → Command → ℕ
 edgeKind t c = kind t (c .role) (c .junior)
 
+-- every part of the kind that the command names stands between its senior and its junior
+pub record PartsStand (t : Tables) (c : Command) : Type 0 where
+  pub i : hasI (c .kind) ≡ true → c .junior isIn row (t .i) (c .role)
+  pub a : hasA (c .kind) ≡ true → c .junior isIn row (t .a) (c .role)
+
+-- what is to be added is there: the new role, or every part of the edge
 pub data Standing (t : Tables) (c : Command) : Type 0 where
   role : c .code ≡ 1 → c .role isIn t .live → Standing t c
-  edge : c .code ≡ 3 → edgeKind t c ≢ 0 → Standing t c
+  edge : c .code ≡ 3 → PartsStand t c → Standing t c
 
-pub record NoEdge (t : Tables) (c : Command) : Type 0 where
-  pub names : 4 ≤ c .code
-  pub none : edgeKind t c ≡ 0
+-- what is to go or to change is not: a part that a removal names, or an edge of any kind to change
+pub data NoEdge (t : Tables) (c : Command) : Type 0 where
+  no-part : c .code ≡ 4 → (PartsStand t c → ⊥) → NoEdge t c
+  no-edge : c .code ≡ 5 → edgeKind t c ≡ 0 → NoEdge t c
 
 -- ---- row 6: the column "Scope condition before"
 

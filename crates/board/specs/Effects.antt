@@ -32,7 +32,7 @@ entry c seniors juniors part old x y =
     cond (eqb (c .code) 1) (old || ((eqb y (c .role) && bit seniors x) || (eqb x (c .role) && bit juniors y)))
     (cond (eqb (c .code) 2) (old && not (eqb x (c .role) || eqb y (c .role)))
     (cond (eqb (c .code) 3) (old || (pair c x y && part))
-    (cond (eqb (c .code) 4) (old && not (pair c x y))
+    (cond (eqb (c .code) 4) (old && not (pair c x y && part))
     (cond (eqb (c .code) 5) (cond (pair c x y) part old)
     old))))
 

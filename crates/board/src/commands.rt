@@ -5,18 +5,20 @@ ghost use mathlib.Core.Path.{_≡_};
 ghost use mathlib.Core.Bool.{true, false, not, _&&_, _||_};
 ghost use mathlib.Core.Logic.{_↔_};
 ghost use Prim.Native.Nat.{ℕ};
-ghost use lib.Dec.{eqb, leb};
+ghost use lib.Dec.{eqb};
 ghost use Rattle.sets.specs.Sets.{bit, _isIn_};
 ghost use Rattle.hierarchy.specs.First.{First};
 ghost use Rattle.hierarchy.specs.Tables.{tables, row, IsTable};
 ghost use Rattle.hierarchy.specs.Views.{ScopeBy};
 ghost use Rattle.board.specs.Boards.{boardOf};
+ghost use Rattle.board.specs.Effects.{hasI, hasA};
 ghost use Rattle.board.specs.Looks.{OutOfOrder, OutsideBy, LateBy, DecidedOff};
 ghost use Rattle.board.specs.Commands.{Malformed, needed, scoped, strictly, InScope, before, Decided};
 use crate::Board;
 use crate::Command;
 use crate::checks::sound_of;
 use crate::effects::change;
+use crate::effects::has_part;
 use crate::shape::whole;
 use hierarchy::scopes::scope;
 use hierarchy::working::work_out;
@@ -59,9 +61,6 @@ fn malformed(c: Command) -> bool
     }
     if c.junior > 63 {
         return true;
-    }
-    if code == 4 {
-        return false;
     }
     if c.kind < 1 {
         return true;
@@ -115,27 +114,53 @@ fn linked<'t>(i: &'t [u64; 64], a: &'t [u64; 64], c: Command) -> bool
     has(union(i[senior], a[senior]), c.junior as usize)
 }
 
-// 4: the new role is live, or the edge to be added stands.
-fn standing(live: u64, c: Command, edge: bool) -> bool
-    ensures { λ r. ⌜ r ≡ ((eqb (c .code) 1 && bit live (c .role)) || (eqb (c .code) 3 && edge)) ⌝ }
+// Whether a row has the junior, where the kind has the part `own` of its table; other parts ask nothing of it.
+fn part_stands(kind: u32, own: u32, row: u64, junior: usize) -> bool
+    ensures { λ r. ⌜ r ≡ (not (eqb kind own || eqb kind 3) || bit row junior) ⌝ }
+{
+    if has_part(kind, own) {
+        return has(row, junior);
+    }
+    true
+}
+
+// Whether every part of the command's kind stands on its edge.
+fn parts_stand<'t>(i: &'t [u64; 64], a: &'t [u64; 64], c: Command) -> bool
+    requires { ⌜ (Malformed c → ⊥) ⌝ }
+    ensures { λ r. ⌜ r ≡ ((not (hasI (c .kind)) || bit (row (now (i .entry)) (c .role)) (c .junior)) && (not (hasA (c .kind)) || bit (row (now (a .entry)) (c .role)) (c .junior))) ⌝ }
+{
+    let senior = c.role as usize;
+    let junior = c.junior as usize;
+    if part_stands(c.kind, 1, i[senior], junior) {
+        return part_stands(c.kind, 2, a[senior], junior);
+    }
+    false
+}
+
+// 4: the new role is live, or all of the edge to be added stands.
+fn standing(live: u64, c: Command, parts: bool) -> bool
+    ensures { λ r. ⌜ r ≡ ((eqb (c .code) 1 && bit live (c .role)) || (eqb (c .code) 3 && parts)) ⌝ }
 {
     if c.code == 1 {
         return has(live, c.role as usize);
     }
     if c.code == 3 {
-        return edge;
+        return parts;
     }
     false
 }
 
-// 5: there is no edge to remove or change.
-fn no_edge(c: Command, edge: bool) -> bool
-    ensures { λ r. ⌜ r ≡ (leb 4 (c .code) && not edge) ⌝ }
+// 5: a part to be removed is missing, or there is no edge to change.
+fn no_edge(c: Command, parts: bool, edge: bool) -> bool
+    ensures { λ r. ⌜ r ≡ ((eqb (c .code) 4 && not parts) || (eqb (c .code) 5 && not edge)) ⌝ }
 {
-    if c.code < 4 {
-        return false;
+    if c.code == 4 {
+        return !parts;
     }
-    !edge
+    if c.code == 5 {
+        return !edge;
+    }
+    false
 }
 
 // Not 6: all are in the actor's scope that must be, `scope` being that.
@@ -179,11 +204,11 @@ fn refused_before<'t>(
     if missing(live, c) {
         return 3;
     }
-    let edge = linked(i, a, c);
-    if standing(live, c, edge) {
+    let parts = parts_stand(i, a, c);
+    if standing(live, c, parts) {
         return 4;
     }
-    if no_edge(c, edge) {
+    if no_edge(c, parts, linked(i, a, c)) {
         return 5;
     }
     if within_scope(scope(down, up, c.actor as usize), c) {

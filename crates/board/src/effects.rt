@@ -41,7 +41,7 @@ fn edit(t: &mut [u64; 64], c: Command, seniors: u64, juniors: u64, part: bool)
         enter(t, senior, junior, true);
         return;
     }
-    if code == 4 {
+    if code == 4 && part {
         enter(t, senior, junior, false);
         return;
     }
@@ -65,7 +65,7 @@ fn living(live: u64, c: Command) -> u64
 }
 
 // Whether a kind has the part `own`, 1 or 2: it is that kind, or both.
-fn has_part(kind: u32, own: u32) -> bool
+pub(crate) fn has_part(kind: u32, own: u32) -> bool
     ensures { λ r. ⌜ r ≡ (eqb kind own || eqb kind 3) ⌝ }
 {
     kind == own || kind == 3

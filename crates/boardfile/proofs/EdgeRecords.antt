@@ -17,12 +17,12 @@ use Rattle.sets.proofs.Digits.{bit-zero}
 use Rattle.sets.proofs.Laws.{same-eq, same-self, bit-lt}
 use Rattle.hierarchy.specs.Tables.{tables, row, kindOf, kind, IsTable}
 use Rattle.board.specs.Effects.{hasI, hasA}
+use Rattle.board.proofs.Parts.{bit-i, bit-a}
 use Rattle.boardfile.specs.Files.{from, edgeBytes, records, kindAt}
 use Rattle.boardfile.specs.Faults.{byte, senior, junior, kindByte, place, Listed, BadRecord, BadRecord.no-senior, BadRecord.no-junior, BadRecord.itself, BadRecord.no-kind, BadRecord.edge-order}
 use Rattle.boardfile.specs.Parts.{GoodFrame, GoodRoles, Spelt, Right, Wrong, Wrong.dead-senior, Wrong.dead-junior, Wrong.same, Wrong.unknown, Fine, GoodEdges}
 use Rattle.boardfile.proofs.Ascending.{from-at}
 use Rattle.boardfile.proofs.Bytes.{bytes, take-bytes, edge-next, edge-end}
-use Rattle.boardfile.proofs.OneFile.{bit-i, bit-a}
 use Rattle.boardfile.proofs.RoleBytes.{past, late}
 
 -- ---- one entry more in a table: u is the new row of s, which has j besides where part is true

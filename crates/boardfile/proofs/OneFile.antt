@@ -12,10 +12,11 @@ use borrow.Author.Tests.{eqb-true, not-false}
 use Rattle.sets.specs.Sets.{bit}
 use Rattle.sets.proofs.Bools.{true-or-false}
 use Rattle.sets.proofs.Laws.{ext}
-use Rattle.hierarchy.specs.Tables.{Tables, Shaped, row, kindOf, kind}
+use Rattle.hierarchy.specs.Tables.{Tables, Shaped, row, kind}
 use Rattle.board.specs.Boards.{tablesOf, SoundBoard}
 use Rattle.board.specs.Effects.{hasI, hasA}
 use Rattle.board.specs.declared.Board.{Board}
+use Rattle.board.proofs.Parts.{bit-i, bit-a}
 use Rattle.board.proofs.Settled.{one-board as one-sound-board}
 use Rattle.boardfile.specs.Files.{from, records, edge?, edgeBytes, bytesOf, kindAt, fileOf}
 use Rattle.boardfile.specs.Faults.{edgeDistance, roleCount}
@@ -79,26 +80,6 @@ module _ (lives living : ℕ → Bool) (kinds others : ℕ → ℕ) (e : bytesOf
           (same-places kinds others (from 4096 0 (edge? kinds)) (from 4096 0 (edge? others)) records-agree) x zero-le (omega arith)
 
 -- ---- and the rows of both tables
-
-part-i : (p q : Bool) → hasI (kindOf p q) ≡ p
-part-i true true = refl
-part-i true false = refl
-part-i false true = refl
-part-i false false = refl
-
-part-a : (p q : Bool) → hasA (kindOf p q) ≡ q
-part-a true true = refl
-part-a true false = refl
-part-a false true = refl
-part-a false false = refl
-
-pub bit-i : (t : Tables) (x y : ℕ) → bit (row (t .i) x) y ≡ hasI (kind t x y)
-unfolding kind
-bit-i t x y = sym (part-i (bit (row (t .i) x) y) (bit (row (t .a) x) y))
-
-pub bit-a : (t : Tables) (x y : ℕ) → bit (row (t .a) x) y ≡ hasA (kind t x y)
-unfolding kind
-bit-a t x y = sym (part-a (bit (row (t .i) x) y) (bit (row (t .a) x) y))
 
 pub at-place : (t : Tables) (x y : ℕ) → y < 64 → kindAt t (x * 64 + y) ≡ kind t x y
 unfolding kindAt

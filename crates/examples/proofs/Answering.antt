@@ -17,14 +17,14 @@ use Rattle.hierarchy.proofs.FirstLaws.{pass, hit, none}
 use Rattle.hierarchy.proofs.Checks.{all-is, any-is, and-is, or-is, if-is, not-is, eq-is, lt-is}
 use Rattle.hierarchy.proofs.Decide.{scope-is, admin-is, loops-is, managed-is, sound-is, sound-dec}
 use Rattle.board.specs.Boards.{tablesOf, KeepsRight, SoundBoard}
-use Rattle.board.specs.Effects.{after}
-use Rattle.board.specs.Commands.{Malformed, Missing, Standing, NoEdge, InScope, Outside, asSenior, asJunior, needed, scoped, strictly, edgeKind, afterwards, onTables, refusals}
-use Rattle.board.specs.Commands.{Malformed.no-code, Malformed.no-actor, Malformed.no-role, Malformed.no-junior, Malformed.no-kind, Standing.role, Standing.edge}
+use Rattle.board.specs.Effects.{hasI, hasA, after}
+use Rattle.board.specs.Commands.{Malformed, Missing, PartsStand, Standing, NoEdge, InScope, Outside, asSenior, asJunior, needed, scoped, strictly, edgeKind, afterwards, onTables, refusals}
+use Rattle.board.specs.Commands.{Malformed.no-code, Malformed.no-actor, Malformed.no-role, Malformed.no-junior, Malformed.no-kind, Standing.role, Standing.edge, NoEdge.no-part, NoEdge.no-edge}
 use Rattle.board.proofs.Rules.{stable, first-alike}
 use Rattle.board.proofs.SoundAfter.{shaped-after}
 use Rattle.board.specs.declared.Board.{Board}
 use Rattle.board.specs.declared.Command.{Command}
-use Rattle.examples.specs.Answer.{malformed?, missing?, standing?, noEdge?, inScope?, outside?, first?, afterwards?, answer?, Fits, fits?}
+use Rattle.examples.specs.Answer.{malformed?, missing?, partsStand?, standing?, noEdge?, inScope?, outside?, first?, afterwards?, answer?, Fits, fits?}
 use Rattle.examples.proofs.Leaving.{left-is}
 
 is : (p : Bool) → (p ≡ true) ↔ (p ≡ true)
@@ -51,7 +51,7 @@ unfolding malformed?
 malformed-is c =
     let code = or-is (lt-is (c .code) 1) (lt-is 5 (c .code)) in
     let junior = and-is (le-is 3 (c .code)) (λ _. lt-is 63 (c .junior)) in
-    let kind = and-is (or-is (eq-is (c .code) 3) (eq-is (c .code) 5)) (λ _. or-is (lt-is (c .kind) 1) (lt-is 3 (c .kind))) in
+    let kind = and-is (le-is 3 (c .code)) (λ _. or-is (lt-is (c .kind) 1) (lt-is 3 (c .kind))) in
     let i = or-is code (or-is (lt-is 63 (c .actor)) (or-is (lt-is 63 (c .role)) (or-is junior kind))) in (
       λ e. ⊎-elim no-code (⊎-elim no-actor (⊎-elim no-role (⊎-elim (λ h. no-junior (h .0) (h .1)) (λ h. no-kind (h .0) (h .1))))) (i .0 e),
       λ m. i .1 (elim m [
@@ -63,11 +63,17 @@ malformed-is c =
       ]),
     )
 
+parts-is : (t : Tables) (c : Command) → (partsStand? t c ≡ true) ↔ PartsStand t c
+unfolding partsStand?
+parts-is t c =
+    let i = and-is (if-is (is (hasI (c .kind))) (is _)) (λ _. if-is (is (hasA (c .kind))) (is _)) in
+    (λ e. let h = i .0 e in record { i = h .0; a = h .1 }, λ s. i .1 (s .i, s .a))
+
 standing-is : (t : Tables) (c : Command) → (standing? t c ≡ true) ↔ Standing t c
 unfolding standing?
 standing-is t c =
     let old = and-is (eq-is (c .code) 1) (λ _. is (bit (t .live) (c .role))) in
-    let i = or-is old (and-is (eq-is (c .code) 3) (λ _. not-is (eq-is (edgeKind t c) 0))) in (
+    let i = or-is old (and-is (eq-is (c .code) 3) (λ _. parts-is t c)) in (
       λ e. ⊎-elim (λ h. role (h .0) (h .1)) (λ h. edge (h .0) (h .1)) (i .0 e),
       λ s. i .1 (elim s [ role e h ↦ inl (e, h) | edge e h ↦ inr (e, h) ]),
     )
@@ -75,8 +81,10 @@ standing-is t c =
 noEdge-is : (t : Tables) (c : Command) → (noEdge? t c ≡ true) ↔ NoEdge t c
 unfolding noEdge?
 noEdge-is t c =
-    let i = and-is (le-is 4 (c .code)) (λ _. eq-is (edgeKind t c) 0) in
-    (λ e. let h = i .0 e in record { names = h .0; none = h .1 }, λ n. i .1 (n .names, n .none))
+    let i = or-is (and-is (eq-is (c .code) 4) (λ _. not-is (parts-is t c))) (and-is (eq-is (c .code) 5) (λ _. eq-is (edgeKind t c) 0)) in (
+      λ e. ⊎-elim (λ h. no-part (h .0) (h .1)) (λ h. no-edge (h .0) (h .1)) (i .0 e),
+      λ n. i .1 (elim n [ no-part e h ↦ inl (e, h) | no-edge e h ↦ inr (e, h) ]),
+    )
 
 outside-is : (t : Tables) (c : Command) → Shaped t → (outside? t c ≡ true) ↔ Outside t c
 unfolding outside?

@@ -8,7 +8,7 @@ use lib.Dec.{eqb}
 use borrow.Author.Tests.{eqb-true}
 use Rattle.sets.proofs.Bools.{and-left, and-right, false-no}
 use Rattle.sets.proofs.Laws.{bit-lt}
-use Rattle.hierarchy.specs.Tables.{Tables, Shaped}
+use Rattle.hierarchy.specs.Tables.{Tables, Shaped, kind}
 use Rattle.hierarchy.specs.Words.{Sound, Climb}
 use Rattle.hierarchy.specs.Words.{Climb.top, Climb.up}
 use Rattle.hierarchy.specs.First.{First}
@@ -19,7 +19,7 @@ use Rattle.board.specs.Commands.{onTables}
 use Rattle.board.proofs.SoundAfter.{shaped-after}
 use Rattle.examples.specs.Answer.{left, answer?, fits?}
 use Rattle.examples.specs.Table.{Stage, tablesAt, Fact, Holds, reached, begins?, climbs?, rows?, holds?, right?, every?}
-use Rattle.examples.specs.Table.{Stage.on, Stage._then_, Fact.sound, Fact.derives, Fact.scope, Fact.manager, Fact.steps, Fact.alone, Fact.loops, Fact.gives, Fact.same}
+use Rattle.examples.specs.Table.{Stage.on, Stage._then_, Fact.sound, Fact.derives, Fact.scope, Fact.manager, Fact.steps, Fact.alone, Fact.loops, Fact.edge, Fact.gives, Fact.same}
 use Rattle.examples.proofs.Answering.{fits-is, answer-is, on-board}
 use Rattle.examples.proofs.Leaving.{left-is}
 
@@ -58,6 +58,7 @@ module _ (t : Tables) (s : Shaped t) where
   fact-holds (steps r n) e = climbs-holds s n r e
   fact-holds (alone r) e = λ a d. not-is (any-is 64 (λ x. admin-is s x r) (λ x d. bit-lt 64 (s .live-fits) (admin-live d))) .0 e (a, d)
   fact-holds loops e = loops-is s .0 e
+  fact-holds (edge x y k) e = eqb-true (kind t x y) k e
   fact-holds (gives c n) e = λ b q right. on-board b c n right
       (subst (λ (t : Tables). First ((1, (Sound t → ⊥)) ∷ onTables t c) n) (sym q)
       (subst (First ((1, (Sound t → ⊥)) ∷ onTables t c)) (eqb-true (answer? t c) n (and-right (fits? c) _ e)) (answer-is t c (fits-is c .0 (and-left (fits? c) _ e)))))

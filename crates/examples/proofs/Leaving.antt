@@ -34,7 +34,7 @@ entry-stays c seniors juniors part old x y e s h =
     (pick (eqb (c .code) 3)
     (ap (λ p. old || ((p && eqb y (c .junior)) && part)) e ∙ or-false old)
     (pick (eqb (c .code) 4)
-    (ap (λ p. old && not (p && eqb y (c .junior))) e ∙ and-true old)
+    (ap (λ p. old && not ((p && eqb y (c .junior)) && part)) e ∙ and-true old)
     (pick (eqb (c .code) 5)
     (ap (λ p. cond (p && eqb y (c .junior)) part old) e)
     refl))))

@@ -38,16 +38,20 @@ malformed? c =
     || (ltb 63 (c .actor)
     || (ltb 63 (c .role)
     || ((leb 3 (c .code) && ltb 63 (c .junior))
-    || ((eqb (c .code) 3 || eqb (c .code) 5) && (ltb (c .kind) 1 || ltb 3 (c .kind))))))
+    || (leb 3 (c .code) && (ltb (c .kind) 1 || ltb 3 (c .kind))))))
 
 unfoldable pub missing? : Tables → Command → Bool
 missing? t c = any 64 (λ x. needed c x && not (bit (t .live) x))
 
+unfoldable pub partsStand? : Tables → Command → Bool
+partsStand? t c =
+    (not (hasI (c .kind)) || bit (row (t .i) (c .role)) (c .junior)) && (not (hasA (c .kind)) || bit (row (t .a) (c .role)) (c .junior))
+
 unfoldable pub standing? : Tables → Command → Bool
-standing? t c = (eqb (c .code) 1 && bit (t .live) (c .role)) || (eqb (c .code) 3 && not (eqb (edgeKind t c) 0))
+standing? t c = (eqb (c .code) 1 && bit (t .live) (c .role)) || (eqb (c .code) 3 && partsStand? t c)
 
 unfoldable pub noEdge? : Tables → Command → Bool
-noEdge? t c = leb 4 (c .code) && eqb (edgeKind t c) 0
+noEdge? t c = (eqb (c .code) 4 && not (partsStand? t c)) || (eqb (c .code) 5 && eqb (edgeKind t c) 0)
 
 unfoldable pub inScope? : Tables → Command → Bool
 inScope? t c =

@@ -19,12 +19,19 @@ W = record { live = 0b111111; i = 0b001110 ∷ replicate 63 0; a = 0 ∷ 0b01100
 unfoldable pub L : Tables
 L = record { live = 0b1111; i = 0b0010 ∷ 0b0100 ∷ replicate 62 0; a = 0b1000 ∷ 0 ∷ 0b1000 ∷ replicate 61 0 }
 
+-- 0 I 1, the board of request 2's examples
+unfoldable pub E : Tables
+E = record { live = 0b11; i = 0b10 ∷ replicate 63 0; a = replicate 64 0 }
+
 -- the kinds by their letters
 abbrev pub I : ℕ
 I = 1
 
 abbrev pub A : ℕ
 A = 2
+
+abbrev pub IA : ℕ
+IA = 3
 
 -- The commands of the examples, none of which names juniors. What a command does not use is 0.
 abbrev pub command : (code actor role junior kind a-seniors i-seniors : ℕ) → Command
@@ -48,6 +55,9 @@ removeRole actor role = command 2 actor role 0 0 0 0
 
 abbrev pub addEdge : (actor senior junior kind : ℕ) → Command
 addEdge actor senior junior kind = command 3 actor senior junior kind 0 0
+
+abbrev pub removeEdge : (actor senior junior kind : ℕ) → Command
+removeEdge actor senior junior kind = command 4 actor senior junior kind 0 0
 
 abbrev pub changeEdge : (actor senior junior kind : ℕ) → Command
 changeEdge actor senior junior kind = command 5 actor senior junior kind 0 0

@@ -1,4 +1,4 @@
--- Document 01's examples in one table, the marked ones and the others. An entry is a stage, which stands for the tables of a board, and a fact:
+-- Document 01's examples and those of the requests in one table. An entry is a stage, which stands for the tables of a board, and a fact:
 -- what it says of that board, in the words of the definitions. Each has a test that can be run.
 -- `Rattle.examples.proofs.Theorem` has the theorem: every entry holds.
 use mathlib.Core.Path.{_≡_}
@@ -8,7 +8,7 @@ use mathlib.Core.List.{List, [], _∷_}
 use Prim.Native.Nat.{ℕ, zero, suc}
 use lib.Dec.{eqb}
 use Rattle.sets.specs.Sets.{_isIn_, setOf}
-use Rattle.hierarchy.specs.Tables.{Tables}
+use Rattle.hierarchy.specs.Tables.{Tables, kind}
 use Rattle.hierarchy.specs.Words.{Derives, Scope, Administrator, LineManager, Loops, Sound, Climb}
 use Rattle.hierarchy.specs.First.{First}
 use Rattle.hierarchy.specs.Compute.{any, derives?, scope?, admin?, manager?, loops?, shaped?, sound?}
@@ -17,7 +17,7 @@ use Rattle.board.specs.Effects.{after}
 use Rattle.board.specs.Commands.{refusals}
 use Rattle.board.specs.declared.Board.{Board}
 use Rattle.board.specs.declared.Command.{Command}
-use Rattle.examples.specs.Boards.{P, W, L, I, A, addRole, removeRole, addEdge, changeEdge}
+use Rattle.examples.specs.Boards.{P, W, L, E, I, A, IA, addRole, removeRole, addEdge, removeEdge, changeEdge}
 use Rattle.examples.specs.Answer.{left, answer?, fits?}
 
 -- ---- stages and facts, and what they mean
@@ -40,6 +40,7 @@ pub data Fact : Type 0 where
   steps : (r n : ℕ) → Fact
   alone : (r : ℕ) → Fact
   loops : Fact
+  edge : (x y k : ℕ) → Fact
   gives : Command → (n : ℕ) → Fact
   same : Tables → Fact
 
@@ -58,6 +59,8 @@ Holds t (steps r n) = Climb t r n
 Holds t (alone r) = (a : ℕ) → Administrator t a r → ⊥
 -- some role reaches itself
 Holds t loops = Loops t
+-- the edge from x to y is of kind k
+Holds t (edge x y k) = kind t x y ≡ k
 -- on every board of these tables whose kept values are right the command gives the number n
 Holds t (gives c n) = (b : Board) → tablesOf b ≡ t → KeepsRight b → First (refusals b c) n
 -- it is these tables
@@ -92,6 +95,7 @@ holds? t (manager r m) = manager? t m r
 holds? t (steps r n) = climbs? t n r
 holds? t (alone r) = not (any 64 (λ a. admin? t a r))
 holds? t loops = loops? t
+holds? t (edge x y k) = eqb (kind t x y) k
 holds? t (gives c n) = fits? c && eqb (answer? t c) n
 holds? t (same d) = eqb (t .live) (d .live) && (rows? (t .i) (d .i) && rows? (t .a) (d .a))
 
@@ -102,7 +106,7 @@ unfoldable pub every? : List (Stage × Fact) → Bool
 every? [] = true
 every? (e ∷ rest) = right? (e .0) (e .1) && every? rest
 
--- ---- the table, its answers worked out by hand from document 01
+-- ---- the table, its answers worked out by hand from the documents
 
 unfoldable pub table : List (Stage × Fact)
 table =
@@ -153,4 +157,22 @@ table =
     ∷ (on P, gives (addRole 0 64 0 0b0010) 2)
     ∷ (on P, gives (addEdge 0 0 2 0) 2)
     ∷ (on P, gives (addEdge 0 0 2 4) 2)
+    -- request 2: the A part added to I gives both, the I part removed again leaves A, which lacks a part of IA and has all of A
+    ∷ (on E, gives (addEdge 0 0 1 A) 0)
+    ∷ (on E then addEdge 0 0 1 A, edge 0 1 IA)
+    ∷ (on E then addEdge 0 0 1 A, gives (removeEdge 0 0 1 I) 0)
+    ∷ (on E then addEdge 0 0 1 A then removeEdge 0 0 1 I, edge 0 1 A)
+    ∷ (on E then addEdge 0 0 1 A then removeEdge 0 0 1 I, gives (removeEdge 0 0 1 IA) 5)
+    ∷ (on E then addEdge 0 0 1 A then removeEdge 0 0 1 I, gives (addEdge 0 0 1 A) 4)
+    ∷ (on E then addEdge 0 0 1 A then removeEdge 0 0 1 I, gives (addEdge 0 0 1 IA) 0)
+    ∷ (on E then addEdge 0 0 1 A then removeEdge 0 0 1 I then addEdge 0 0 1 IA, edge 0 1 IA)
+    ∷ (on E then addEdge 0 0 1 A then removeEdge 0 0 1 I, gives (removeEdge 0 0 1 A) 9)
+    ∷ (on E, gives (removeEdge 0 0 1 0) 2)
+    ∷ (on E, gives (removeEdge 0 0 1 4) 2)
+    -- an edge goes with its last part
+    ∷ (on P, gives (removeEdge 0 0 2 I) 5)
+    ∷ (on P then addEdge 0 0 2 I, gives (removeEdge 0 0 2 I) 0)
+    ∷ (on P then addEdge 0 0 2 I then removeEdge 0 0 2 I, same P)
+    -- the missing part leaves role 5 alone
+    ∷ (on W then addEdge 0 2 3 I, gives (addEdge 0 2 3 A) 9)
     ∷ []

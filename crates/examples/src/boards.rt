@@ -2,7 +2,7 @@
 ghost use mathlib.Core.Path.{_≡_};
 ghost use Rattle.hierarchy.specs.Tables.{tables};
 ghost use Rattle.board.specs.Boards.{tablesOf};
-ghost use Rattle.examples.specs.Boards.{P, W, L, command, addRole, removeRole, addEdge, changeEdge};
+ghost use Rattle.examples.specs.Boards.{P, W, L, E, command, addRole, removeRole, addEdge, removeEdge, changeEdge};
 use board::Board;
 use board::Command;
 use hierarchy::working::work_out;
@@ -63,6 +63,15 @@ pub(crate) fn l() -> Board
     of(0b1111, i, a)
 }
 
+// 0 I 1
+pub(crate) fn e() -> Board
+    ensures { λ r. ⌜ tablesOf r ≡ E ⌝ }
+{
+    let mut i = [0u64; Board::ROLES];
+    i[0] = 0b10;
+    of(0b11, i, [0u64; Board::ROLES])
+}
+
 fn command(
     code: u32,
     actor: u32,
@@ -103,6 +112,12 @@ pub(crate) fn add_edge(actor: u32, senior: u32, junior: u32, kind: u32) -> Comma
     ensures { λ r. ⌜ r ≡ addEdge actor senior junior kind ⌝ }
 {
     command(3, actor, senior, junior, kind, 0, 0)
+}
+
+pub(crate) fn remove_edge(actor: u32, senior: u32, junior: u32, kind: u32) -> Command
+    ensures { λ r. ⌜ r ≡ removeEdge actor senior junior kind ⌝ }
+{
+    command(4, actor, senior, junior, kind, 0, 0)
 }
 
 pub(crate) fn change_edge(actor: u32, senior: u32, junior: u32, kind: u32) -> Command

@@ -196,6 +196,20 @@ pub(crate) fn add_edge(
     run(b, boards::add_edge(a, senior, junior, kind))
 }
 
+pub(crate) fn remove_edge(
+    name: &[u8],
+    b: Board,
+    a: u32,
+    senior: u32,
+    junior: u32,
+    kind: u32,
+) -> Board {
+    actor(name, a);
+    text(b" removes ");
+    edge(senior, junior, kind);
+    run(b, boards::remove_edge(a, senior, junior, kind))
+}
+
 pub(crate) fn change_edge(
     name: &[u8],
     b: Board,
@@ -208,6 +222,37 @@ pub(crate) fn change_edge(
     text(b" changes ");
     edge(senior, junior, kind);
     run(b, boards::change_edge(a, senior, junior, kind))
+}
+
+// The kind of the edge from x to y, by the two tables; 0 where there is none.
+fn kind_of(b: Board, x: usize, y: usize) -> u32 {
+    if x > 63 {
+        return 0;
+    }
+    let i = b.i;
+    let a = b.a;
+    let by_a = has(a[x], y);
+    if has(i[x], y) {
+        if by_a {
+            return 3;
+        }
+        return 1;
+    }
+    if by_a {
+        return 2;
+    }
+    0
+}
+
+pub(crate) fn kind(name: &[u8], b: Board, x: u32, y: u32) {
+    text(name);
+    text(b": kind of ");
+    number(x);
+    text(b" to ");
+    number(y);
+    text(b": ");
+    number(kind_of(b, x as usize, y as usize));
+    text(b"\n");
 }
 
 // What is wrong with the board of these tables. Its entries join live roles, so what is not in order is a loop.

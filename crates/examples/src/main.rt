@@ -1,5 +1,6 @@
-// Runs every example of document 01 through the board's own functions and writes a line for each: what was asked, then what came
-// back. `stdout` has the same lines, worked out by hand from the document.
+// Runs every example of document 01, and those of the requests, through the board's own functions and writes a line for each: what was asked, then what came
+// back. `stdout` has the same lines, worked out by hand from the documents.
+use boards::e;
 use boards::l;
 use boards::p;
 use boards::w;
@@ -71,6 +72,7 @@ fn edges_on_w() {
     let more = lines::add_edge(b"W", b, 0, 2, 3, 1);
     lines::manager(b"W with 2 I 3", more, 3);
     lines::change_edge(b"W with 2 I 3", more, 0, 2, 3, 2);
+    lines::add_edge(b"W with 2 I 3", more, 0, 2, 3, 2);
 }
 
 // Role 63 is in range and 64 is not, in each field that names a role; and 257 is not role 1.
@@ -97,6 +99,31 @@ fn range_of_kinds() {
     lines::add_edge(b"P", b, 0, 0, 2, 4);
 }
 
+// Request 2: an edge by its parts.
+fn parts_of_an_edge() {
+    let b = e();
+    let both = lines::add_edge(b"0 I 1", b, 0, 0, 1, 2);
+    lines::kind(b"0 I 1 with A", both, 0, 1);
+    let by_a = lines::remove_edge(b"0 IA 1", both, 0, 0, 1, 1);
+    lines::kind(b"0 IA 1 without I", by_a, 0, 1);
+    lines::remove_edge(b"0 A 1", by_a, 0, 0, 1, 3);
+    lines::add_edge(b"0 A 1", by_a, 0, 0, 1, 2);
+    let again = lines::add_edge(b"0 A 1", by_a, 0, 0, 1, 3);
+    lines::kind(b"0 A 1 with IA", again, 0, 1);
+    lines::remove_edge(b"0 A 1", by_a, 0, 0, 1, 2);
+    lines::remove_edge(b"0 I 1", b, 0, 0, 1, 0);
+    lines::remove_edge(b"0 I 1", b, 0, 0, 1, 4);
+}
+
+// Request 2: an edge goes with its last part.
+fn last_part() {
+    let b = p();
+    lines::remove_edge(b"P", b, 0, 0, 2, 1);
+    let more = lines::add_edge(b"P", b, 0, 0, 2, 1);
+    let less = lines::remove_edge(b"P with 0 I 2", more, 0, 0, 2, 1);
+    lines::same(b"P with 0 I 2, and that removed again, is P", less, b);
+}
+
 fn main() {
     questions_on_p();
     changes_on_p();
@@ -105,4 +132,6 @@ fn main() {
     edges_on_w();
     range_of_roles();
     range_of_kinds();
+    parts_of_an_edge();
+    last_part();
 }

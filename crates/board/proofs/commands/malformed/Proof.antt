@@ -5,7 +5,7 @@ use lib.Dec.{ltb}
 use Rattle.sets.proofs.Bools.{true-or-false}
 use Rattle.board.specs.Commands.{Malformed.no-code, Malformed.no-actor, Malformed.no-role, Malformed.no-junior, Malformed.no-kind}
 use Rattle.board.proofs.Looking.{never}
-use Rattle.board.proofs.Trying.{always, ranged, names-kind}
+use Rattle.board.proofs.Trying.{always, ranged}
 use Rattle.board.proofs.commands.malformed.Statement.{statement}
 use Rattle.board.proofs.commands.malformed.Tie as tie
 
@@ -22,38 +22,22 @@ returns-4 : tie.Need-returns-4
 returns-4 c = always (no-role (c .if4 .taken))
 
 returns-5 : tie.Need-returns-5
-returns-5 c = never (ranged _ (omega arith) (omega arith) (omega arith) (omega arith) (λ n. absurd (omega arith))
-    (⊎-elim (λ e. absurd (omega arith)) (λ e. absurd (omega arith))))
+returns-5 c = never (ranged _ (omega arith) (omega arith) (omega arith) (omega arith) (λ n. absurd (omega arith)) (λ n. absurd (omega arith)))
 
 returns-6 : tie.Need-returns-6
 returns-6 c = always (no-junior (c .before .before .if5 .left) (c .if6 .taken))
 
 returns-7 : tie.Need-returns-7
-returns-7 c = never (ranged _ (omega arith) (omega arith) (omega arith) (omega arith) (λ n. omega arith)
-    (⊎-elim (λ e. absurd (omega arith)) (λ e. absurd (omega arith))))
+returns-7 c = always (no-kind (c .before .before .before .before .if5 .left) (inl (c .if7 .taken)))
 
 returns-8 : tie.Need-returns-8
-returns-8 c = always (no-kind (names-kind (c .before .before .before .before .before .before .before .before .before .before .before .before .args .c) (omega arith) (omega arith) (c .before .before .if7 .left)) (inl (c .if8 .taken)))
-
-returns-9 : tie.Need-returns-9
-returns-9 c = let a = c .before .before .before .before .before .before .before .before .before .before .before .before .before .args .c in
+returns-8 c = let a = c .before .before .before .before .before .before .before .before .before .before .before .before .args .c in
     let k = a .kind in (
-      λ e. no-kind (names-kind a (omega arith) (omega arith) (c .before .before .before .if7 .left)) (inr (ltb-true 3 k e)),
+      λ e. no-kind (c .before .before .before .before .before .if5 .left) (inr (ltb-true 3 k e)),
       λ m. ⊎-elim (λ e. e)
           (λ e. let h = ltb-false 3 k e in absurd (ranged a (omega arith) (omega arith) (omega arith) (omega arith) (λ n. omega arith) (λ n. (omega arith, omega arith)) m))
           (true-or-false (ltb 3 k)),
     )
 
 pub malformed-spec : {M : Type 1} → statement M
-malformed-spec =
-    tie.close
-    (tie.spec
-    returns
-    returns-2
-    returns-3
-    returns-4
-    returns-5
-    returns-6
-    returns-7
-    returns-8
-    returns-9)
+malformed-spec = tie.close (tie.spec returns returns-2 returns-3 returns-4 returns-5 returns-6 returns-7 returns-8)

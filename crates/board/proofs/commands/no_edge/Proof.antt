@@ -1,12 +1,16 @@
-use borrow.Author.Tests.{lt-leb, le-leb}
+use native.Mathlib.Omega.{arith}
+use Rattle.board.proofs.Trying.{picks-first, picks-second, picks-none}
 use Rattle.board.proofs.commands.no_edge.Statement.{statement}
 use Rattle.board.proofs.commands.no_edge.Tie as tie
 
 returns : tie.Need-returns
-returns c = rw (lt-leb 4 (c .before .before .args .c .code) (c .if1 .taken))
+returns c = picks-first _ 4 5 _ _ (c .if1 .taken) (λ e. omega (arith, e))
 
 returns-2 : tie.Need-returns-2
-returns-2 c = rw (le-leb 4 (c .before .before .args .c .code) (c .if1 .left))
+returns-2 c = picks-second _ 4 5 _ _ (c .if2 .taken) (λ e. omega (arith, e))
+
+returns-3 : tie.Need-returns-3
+returns-3 c = picks-none _ 4 5 _ _ (c .before .before .if1 .left) (c .if2 .left)
 
 pub no-edge-spec : {M : Type 1} → statement M
-no-edge-spec = tie.close (tie.spec returns returns-2)
+no-edge-spec = tie.close (tie.spec returns returns-2 returns-3)

@@ -1,11 +1,11 @@
 use mathlib.Core.Path.{_≡_}
 use mathlib.Core.Bool.{true}
-use mathlib.Core.Logic.{_↔_, _≢_, Iff·trans}
+use mathlib.Core.Logic.{_↔_, Iff·trans}
 use Rattle.hierarchy.specs.Views.{ScopeBy}
 use Rattle.hierarchy.specs.Tables.{Tables, tables}
-use Rattle.board.specs.Commands.{Malformed, Missing, edgeKind, Standing, NoEdge, InScope}
+use Rattle.board.specs.Commands.{Malformed, Missing, PartsStand, Standing, NoEdge, InScope}
 use Rattle.board.proofs.Looking.{holds, fails}
-use Rattle.board.proofs.Trying.{missing-row, edge-row, standing-row, no-edge-row, in-scope-alike, refused-2, refused-3, refused-4, refused-5, refused-6, refused-not}
+use Rattle.board.proofs.Trying.{missing-row, edge-row, parts-row, standing-row, no-edge-row, in-scope-alike, refused-2, refused-3, refused-4, refused-5, refused-6, refused-not}
 use borrow.Author.Needs.{needs}
 use Rattle.board.proofs.commands.refused_before.Statement.{statement}
 use Rattle.board.proofs.commands.refused_before.Tie as tie
@@ -24,17 +24,20 @@ formed-at c = fails (c .before .malformed .ensures) (c .if1 .left)
 present-at : (c : tie.Else2) → Missing (board (c .before .before .before .before)) (c .before .before .before .before .args .c) → ⊥
 present-at c = fails (missing-row (board (c .before .before .before .before)) _ (c .before .missing .ensures)) (c .if2 .left)
 
-edge-at : (c : tie.After-linked) → (c .linked .result ≡ true) ↔ (edgeKind (board (c .before .before .before .before .before)) (c .before .before .before .before .before .args .c) ≢ 0)
-edge-at c = edge-row (board (c .before .before .before .before .before)) (c .before .before .before .before .before .args .c) (c .linked .ensures)
+parts-at : (c : tie.After-parts-stand) → (c .parts-stand .result ≡ true) ↔ PartsStand (board (c .before .before .before .before .before)) (c .before .before .before .before .before .args .c)
+parts-at c = parts-row (board (c .before .before .before .before .before)) (c .before .before .before .before .before .args .c) (c .parts-stand .ensures)
 
 free-at : (c : tie.Else3) → Standing (board (c .before .before .before .before .before .before .before)) (c .before .before .before .before .before .before .before .args .c) → ⊥
-free-at c = fails (standing-row _ _ (edge-at (c .before .before)) (c .before .standing .ensures)) (c .if3 .left)
+free-at c = fails (standing-row _ _ (parts-at (c .before .before)) (c .before .standing .ensures)) (c .if3 .left)
 
-there-at : (c : tie.Else4) → NoEdge (board (c .before .before .before .before .before .before .before .before .before)) (c .before .before .before .before .before .before .before .before .before .args .c) → ⊥
-there-at c = fails (no-edge-row _ _ (edge-at (c .before .before .before .before)) (c .before .no-edge .ensures)) (c .if4 .left)
+edge-at : (c : tie.After-no-edge) → (c .no-edge .result ≡ true) ↔ NoEdge (board (c .before .before .before .before .before .before .before .before .before)) (c .before .before .before .before .before .before .before .before .before .args .c)
+edge-at c = no-edge-row _ _ (parts-at (c .before .before .before .before)) (edge-row (board (c .before .before .before .before .before .before .before .before .before)) (c .before .before .before .before .before .before .before .before .before .args .c) (c .before .linked .ensures)) (c .no-edge .ensures)
 
-scope-at : (c : tie.After-within-scope) → (c .within-scope .result ≡ true) ↔ InScope (ScopeBy (c .before .before .before .before .before .before .before .before .before .before .before .before .args .down .now) (c .before .before .before .before .before .before .before .before .before .before .before .before .args .up .now)) (c .before .before .before .before .before .before .before .before .before .before .before .before .args .c)
-scope-at c = Iff·trans (c .within-scope .ensures) (in-scope-alike (c .before .before .before .before .before .before .before .before .before .before .before .before .args .c) (c .before .scope .ensures))
+there-at : (c : tie.Else4) → NoEdge (board (c .before .before .before .before .before .before .before .before .before .before)) (c .before .before .before .before .before .before .before .before .before .before .args .c) → ⊥
+there-at c = fails (edge-at (c .before)) (c .if4 .left)
+
+scope-at : (c : tie.After-within-scope) → (c .within-scope .result ≡ true) ↔ InScope (ScopeBy (c .before .before .before .before .before .before .before .before .before .before .before .before .before .args .down .now) (c .before .before .before .before .before .before .before .before .before .before .before .before .before .args .up .now)) (c .before .before .before .before .before .before .before .before .before .before .before .before .before .args .c)
+scope-at c = Iff·trans (c .within-scope .ensures) (in-scope-alike (c .before .before .before .before .before .before .before .before .before .before .before .before .before .args .c) (c .before .scope .ensures))
 
 returns : tie.Need-returns
 returns c = refused-2 _ _ _ (holds (c .before .malformed .ensures) (c .if1 .taken))
@@ -45,20 +48,23 @@ missing-requires c κs = formed-at c
 returns-2 : tie.Need-returns-2
 returns-2 c = refused-3 _ _ _ (formed-at (c .before .before)) (holds (missing-row (board (c .before .before .before .before)) _ (c .before .missing .ensures)) (c .if2 .taken))
 
-linked-requires : tie.Need-linked-requires
-linked-requires c κs = formed-at (c .before .before)
+parts-stand-requires : tie.Need-parts-stand-requires
+parts-stand-requires c κs = formed-at (c .before .before)
 
 standing-requires : tie.Need-standing-requires
 standing-requires c κs = search needs
 
 returns-3 : tie.Need-returns-3
-returns-3 c = refused-4 _ _ _ (formed-at (c .before .before .before .before .before)) (present-at (c .before .before .before)) (holds (standing-row _ _ (edge-at (c .before .before)) (c .before .standing .ensures)) (c .if3 .taken))
+returns-3 c = refused-4 _ _ _ (formed-at (c .before .before .before .before .before)) (present-at (c .before .before .before)) (holds (standing-row _ _ (parts-at (c .before .before)) (c .before .standing .ensures)) (c .if3 .taken))
+
+linked-requires : tie.Need-linked-requires
+linked-requires c κs = formed-at (c .before .before .before .before .before)
 
 no-edge-requires : tie.Need-no-edge-requires
 no-edge-requires c κs = search needs
 
 returns-4 : tie.Need-returns-4
-returns-4 c = refused-5 _ _ _ (formed-at (c .before .before .before .before .before .before .before)) (present-at (c .before .before .before .before .before)) (free-at (c .before .before)) (holds (no-edge-row _ _ (edge-at (c .before .before .before .before)) (c .before .no-edge .ensures)) (c .if4 .taken))
+returns-4 c = refused-5 _ _ _ (formed-at (c .before .before .before .before .before .before .before .before)) (present-at (c .before .before .before .before .before .before)) (free-at (c .before .before .before)) (holds (edge-at (c .before)) (c .if4 .taken))
 
 cast-scope : tie.Need-cast-scope
 cast-scope c = search needs
@@ -67,13 +73,13 @@ scope-requires : tie.Need-scope-requires
 scope-requires c κs = search needs
 
 within-scope-requires : tie.Need-within-scope-requires
-within-scope-requires c κs = formed-at (c .before .before .before .before .before .before .before .before .before)
+within-scope-requires c κs = formed-at (c .before .before .before .before .before .before .before .before .before .before)
 
 returns-5 : tie.Need-returns-5
-returns-5 c = refused-not _ _ _ (formed-at (c .before .before .before .before .before .before .before .before .before .before .before)) (present-at (c .before .before .before .before .before .before .before .before .before)) (free-at (c .before .before .before .before .before .before)) (there-at (c .before .before .before .before)) (holds (scope-at (c .before)) (c .if5 .taken))
+returns-5 c = refused-not _ _ _ (formed-at (c .before .before .before .before .before .before .before .before .before .before .before .before)) (present-at (c .before .before .before .before .before .before .before .before .before .before)) (free-at (c .before .before .before .before .before .before .before)) (there-at (c .before .before .before .before)) (holds (scope-at (c .before)) (c .if5 .taken))
 
 returns-6 : tie.Need-returns-6
-returns-6 c = refused-6 _ _ _ (formed-at (c .before .before .before .before .before .before .before .before .before .before .before)) (present-at (c .before .before .before .before .before .before .before .before .before)) (free-at (c .before .before .before .before .before .before)) (there-at (c .before .before .before .before)) (fails (scope-at (c .before)) (c .if5 .left))
+returns-6 c = refused-6 _ _ _ (formed-at (c .before .before .before .before .before .before .before .before .before .before .before .before)) (present-at (c .before .before .before .before .before .before .before .before .before .before)) (free-at (c .before .before .before .before .before .before .before)) (there-at (c .before .before .before .before)) (fails (scope-at (c .before)) (c .if5 .left))
 
 pub refused-before-spec : {M : Type 1} → statement M
 refused-before-spec =
@@ -83,9 +89,10 @@ refused-before-spec =
     returns
     missing-requires
     returns-2
-    linked-requires
+    parts-stand-requires
     standing-requires
     returns-3
+    linked-requires
     no-edge-requires
     returns-4
     cast-scope

@@ -1,6 +1,6 @@
 use mathlib.Core.Path.{_∙_}
-use Rattle.sets.specs.Sets.{bit}
-use Rattle.board.proofs.Trying.{standing-1, standing-3, standing-else}
+use native.Mathlib.Omega.{arith}
+use Rattle.board.proofs.Trying.{picks-first, picks-second, picks-none}
 use borrow.Author.Needs.{needs}
 use Rattle.board.proofs.commands.standing.Statement.{statement}
 use Rattle.board.proofs.commands.standing.Tie as tie
@@ -12,13 +12,13 @@ has-requires : tie.Need-has-requires
 has-requires c κs = search needs
 
 returns : tie.Need-returns
-returns c = let a = c .before .before .before .before .args in c .has .ensures ∙ standing-1 (a .c) (a .edge) (bit (a .live) (a .c .role)) (c .before .before .if1 .taken)
+returns c = c .has .ensures ∙ picks-first _ 1 3 _ _ (c .before .before .if1 .taken) (λ e. omega (arith, e))
 
 returns-2 : tie.Need-returns-2
-returns-2 c = let a = c .before .before .before .before .args in standing-3 (a .c) (a .edge) (bit (a .live) (a .c .role)) (c .if2 .taken)
+returns-2 c = picks-second _ 1 3 _ _ (c .if2 .taken) (λ e. omega (arith, e))
 
 returns-3 : tie.Need-returns-3
-returns-3 c = let a = c .before .before .before .before .args in standing-else (a .c) (a .edge) (bit (a .live) (a .c .role)) (c .before .before .if1 .left) (c .if2 .left)
+returns-3 c = picks-none _ 1 3 _ _ (c .before .before .if1 .left) (c .if2 .left)
 
 pub standing-spec : {M : Type 1} → statement M
 standing-spec = tie.close (tie.spec cast-has has-requires returns returns-2 returns-3)

@@ -64,9 +64,10 @@ enter-requires-3 c κs = search needs
 
 returns-4 : tie.Need-returns-4
 returns-4 c =
-    let s = c .before .before .before .before .before .before in
+    let s = c .before .before .before .before .before .before .before in
     let a = s .before .before .before .args in
-    unlinks (a .c) (a .seniors) (a .juniors) (a .part) (a .t .now) (s .single .result) (s .single .ensures) (c .before .before .if5 .taken) _ (c .enter3 .ensures)
+    unlinks (a .c) (a .seniors) (a .juniors) (a .part) (a .t .now) (s .single .result) (s .single .ensures) (c .before .before .before .if5 .taken)
+    (c .before .before .if6 .taken) _ (c .enter3 .ensures)
 
 enter-requires-4 : tie.Need-enter-requires-4
 enter-requires-4 c κs = search needs
@@ -75,14 +76,15 @@ returns-5 : tie.Need-returns-5
 returns-5 c =
     let s = c .before .before .before .before .before .before .before in
     let a = s .before .before .before .args in
-    changes (a .c) (a .seniors) (a .juniors) (a .part) (a .t .now) (s .single .result) (s .single .ensures) (c .before .before .if6 .taken) _ (c .enter4 .ensures)
+    changes (a .c) (a .seniors) (a .juniors) (a .part) (a .t .now) (s .single .result) (s .single .ensures) (c .before .before .if7 .taken) _ (c .enter4 .ensures)
 
 returns-6 : tie.Need-returns-6
 returns-6 c =
     let k = c .before .before in
     let s = k .before .before .before .before .before .before in
     keeps (s .args .c) (s .args .seniors) (s .args .juniors) (s .args .part) (s .args .t .now) (k .before .before .if1 .left) (k .before .if2 .left)
-    (λ e. ⊎-elim (λ w. w .1 .left) (λ w. absurd (w .left e)) (k .if3 .came)) (c .before .if5 .left) (c .if6 .left) (s .pre)
+    (λ e. ⊎-elim (λ w. w .1 .left) (λ w. absurd (w .left e)) (k .if3 .came))
+    (λ e. ⊎-elim (λ w. w .1 .left) (λ w. absurd (w .left e)) (c .before .if5 .came)) (c .if7 .left) (s .pre)
 
 pub edit-spec : {M : Type 1} → statement M
 edit-spec =

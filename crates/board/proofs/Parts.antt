@@ -1,0 +1,85 @@
+-- An edge by its parts: what the tables say of its kind, and what the edge commands leave of it. Assumes nothing.
+use mathlib.Core.Path.{_≡_, refl, sym, ap, ap₂, _∙_}
+use mathlib.Core.Bool.{Bool, true, false, cond, not, _&&_, _||_, or-false, and-true}
+use mathlib.Core.Logic.{⊎-elim}
+use mathlib.Core.List.{List}
+use Prim.Native.Nat.{ℕ, _<_}
+use lib.Dec.{eqb}
+use borrow.Author.Tests.{eqb-true, eq-eqb}
+use Rattle.sets.specs.Sets.{bit}
+use Rattle.sets.proofs.Bools.{and-both, and-left, and-right, not-so}
+use Rattle.hierarchy.specs.Tables.{Tables, Shaped, IsTable, row, kindOf, kind}
+use Rattle.board.specs.Effects.{hasI, hasA, pair, tableAfter, after}
+use Rattle.board.specs.Commands.{edgeKind}
+use Rattle.board.specs.declared.Command.{Command}
+use Rattle.board.proofs.Edits.{cond-true, table-entry, entry-3, entry-4, entry-5}
+
+-- ---- the parts of a kind are the entries of its pair
+
+part-i : (p q : Bool) → p ≡ hasI (kindOf p q)
+part-i true true = refl
+part-i true false = refl
+part-i false true = refl
+part-i false false = refl
+
+part-a : (p q : Bool) → q ≡ hasA (kindOf p q)
+part-a true true = refl
+part-a true false = refl
+part-a false true = refl
+part-a false false = refl
+
+module _ (t : Tables) (x y : ℕ) where
+  pub bit-i : bit (row (t .i) x) y ≡ hasI (kind t x y)
+  unfolding kind
+  bit-i = part-i (bit (row (t .i) x) y) (bit (row (t .a) x) y)
+
+  pub bit-a : bit (row (t .a) x) y ≡ hasA (kind t x y)
+  unfolding kind
+  bit-a = part-a (bit (row (t .i) x) y) (bit (row (t .a) x) y)
+
+-- ---- what a command leaves of its own edge
+
+-- the kind with the parts of either; and the parts of the first that the second lacks
+abbrev pub both : ℕ → ℕ → ℕ
+both h k = kindOf (hasI h || hasI k) (hasA h || hasA k)
+
+abbrev pub less : ℕ → ℕ → ℕ
+less h k = kindOf (hasI h && not (hasI k)) (hasA h && not (hasA k))
+
+module _ (c : Command) (l : c .role < 64) (m : c .junior < 64) where
+  here : pair c (c .role) (c .junior) ≡ true
+  here = and-both _ _ (eq-eqb (c .role) (c .role) refl) (eq-eqb (c .junior) (c .junior) refl)
+
+  -- in one table, which had `old` there
+  module _ (s j : ℕ) (p : Bool) (t : List ℕ) where
+    abbrev old : Bool
+    old = bit (row t (c .role)) (c .junior)
+
+    abbrev new : Bool
+    new = bit (row (tableAfter c s j p t) (c .role)) (c .junior)
+
+    added : c .code ≡ 3 → new ≡ (old || p)
+    added e = table-entry c s j p t (c .role) (c .junior) l m ∙ entry-3 c s j p old (c .role) (c .junior) e ∙ ap (λ q. old || (q && p)) here
+
+    removed : c .code ≡ 4 → new ≡ (old && not p)
+    removed e = table-entry c s j p t (c .role) (c .junior) l m ∙ entry-4 c s j p old (c .role) (c .junior) e ∙ ap (λ q. old && not (q && p)) here
+
+    changed : c .code ≡ 5 → new ≡ p
+    changed e = table-entry c s j p t (c .role) (c .junior) l m ∙ entry-5 c s j p old (c .role) (c .junior) e ∙ cond-true p old here
+
+  module _ (t : Tables) where
+    pub kind-added : c .code ≡ 3 → edgeKind (after t c) c ≡ both (edgeKind t c) (c .kind)
+    unfolding after kind
+    kind-added e = ap₂ kindOf
+        (added _ _ _ (t .i) e ∙ ap (λ o. o || hasI (c .kind)) (bit-i t (c .role) (c .junior)))
+        (added _ _ _ (t .a) e ∙ ap (λ o. o || hasA (c .kind)) (bit-a t (c .role) (c .junior)))
+
+    pub kind-removed : c .code ≡ 4 → edgeKind (after t c) c ≡ less (edgeKind t c) (c .kind)
+    unfolding after kind
+    kind-removed e = ap₂ kindOf
+        (removed _ _ _ (t .i) e ∙ ap (λ o. o && not (hasI (c .kind))) (bit-i t (c .role) (c .junior)))
+        (removed _ _ _ (t .a) e ∙ ap (λ o. o && not (hasA (c .kind))) (bit-a t (c .role) (c .junior)))
+
+    pub kind-changed : c .code ≡ 5 → edgeKind (after t c) c ≡ kindOf (hasI (c .kind)) (hasA (c .kind))
+    unfolding after kind
+    kind-changed e = ap₂ kindOf (changed _ _ _ (t .i) e) (changed _ _ _ (t .a) e)
