@@ -1,5 +1,5 @@
 -- Tables row by row and entry by entry: what the code of the effects cites. Assumes nothing.
-use mathlib.Core.Path.{_≡_, refl, sym, ap, _∙_, subst}
+use mathlib.Core.Path.{_≡_, refl, sym, ap, ap₂, _∙_, subst}
 use mathlib.Core.Bool.{Bool, true, false, cond, not, _&&_, _||_, and-true, and-false, or-true, or-false, or-assoc, and-comm}
 use mathlib.Core.Logic.{_≢_, ⊎-elim}
 use mathlib.Core.List.{List}
@@ -160,7 +160,7 @@ module _ (c : Command) (s j : ℕ) (p : Bool) (t : List ℕ) where
       (l, m, sym (table-entry x y l m) ∙ e)
 
   -- a whole table is the one after the command where each entry is
-  table-is : (r : List ℕ) → IsTable r → ((x y : ℕ) → x < 64 → y < 64 → bit (row r x) y ≡ entry c s j p (bit (row t x) y) x y) → r ≡ tableAfter c s j p t
+  pub table-is : (r : List ℕ) → IsTable r → ((x y : ℕ) → x < 64 → y < 64 → bit (row r x) y ≡ entry c s j p (bit (row t x) y) x y) → r ≡ tableAfter c s j p t
   table-is r whole e =
       ext-getD 0 r (tableAfter c s j p t) (whole .rows ∙ sym table-length)
       (λ x l. let m : x < 64 = omega (arith, whole .rows) in is-setOf (row r x) _ (whole .fits x) (λ y k. e x y m k) ∙ sym (row-is x m))
@@ -188,7 +188,7 @@ module _ (c : Command) (s j : ℕ) (p o : Bool) (x y : ℕ) where
   unfolding entry
   entry-4 e = rw e
 
-  pub entry-5 : c .code ≡ 5 → entry c s j p o x y ≡ cond (pair c x y) p o
+  entry-5 : c .code ≡ 5 → entry c s j p o x y ≡ cond (pair c x y) p o
   unfolding entry
   entry-5 e = rw e
 
@@ -206,6 +206,12 @@ module _ (c : Command) (s j : ℕ) (p o : Bool) (x y : ℕ) where
       same false true k5 = and-true o
       same false false true = refl
       same false false false = refl
+
+-- at the pair that the command names stands the entry of its senior and junior
+pub named : (c : Command) (x y : ℕ) (t : List ℕ) → pair c x y ≡ true → bit (row t x) y ≡ bit (row t (c .role)) (c .junior)
+named c x y t e =
+    let p = eqb x (c .role) in
+    let q = eqb y (c .junior) in ap₂ (λ (u v : ℕ). bit (row t u) v) (eqb-true x (c .role) (and-left p q e)) (eqb-true y (c .junior) (and-right p q e))
 
 -- the role's own row gets the juniors
 grow : (e q j o : Bool) → cond e ((o || q) || j) (o || q) ≡ (o || (q || (e && j)))
@@ -269,8 +275,7 @@ module _ (c : Command) (s j : ℕ) (p : Bool) (t : List ℕ) where
   idles e h whole = table-is c s j p t t whole (λ x y l m. here x y (pair c x y) refl ∙ sym (entry-5 c s j p (bit (row t x) y) x y e))
     where
       here : (x y : ℕ) (q : Bool) → pair c x y ≡ q → bit (row t x) y ≡ cond q p (bit (row t x) y)
-      here x y true d =
-          rw (eqb-true x (c .role) (and-left (eqb x (c .role)) (eqb y (c .junior)) d), eqb-true y (c .junior) (and-right (eqb x (c .role)) (eqb y (c .junior)) d)) h
+      here x y true d = named c x y t d ∙ h
       here x y false d = refl
 
   pub keeps : c .code ≢ 1 → c .code ≢ 2 → (c .code ≡ 3 → p ≡ false) → (c .code ≡ 4 → p ≡ false) → c .code ≢ 5 → IsTable t → t ≡ tableAfter c s j p t

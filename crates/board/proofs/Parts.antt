@@ -1,18 +1,18 @@
 -- An edge by its parts: what the tables say of its kind, and what the edge commands leave of it. Assumes nothing.
 use mathlib.Core.Path.{_≡_, refl, sym, ap, ap₂, _∙_}
-use mathlib.Core.Bool.{Bool, true, false, cond, not, _&&_, _||_, or-false, and-true}
-use mathlib.Core.Logic.{⊎-elim}
+use mathlib.Core.Bool.{Bool, true, false, not, _&&_, _||_, or-false, and-true, and-false}
 use mathlib.Core.List.{List}
 use Prim.Native.Nat.{ℕ, _<_}
+use native.Mathlib.Omega.{arith}
 use lib.Dec.{eqb}
-use borrow.Author.Tests.{eqb-true, eq-eqb}
+use borrow.Author.Tests.{eq-eqb}
 use Rattle.sets.specs.Sets.{bit}
-use Rattle.sets.proofs.Bools.{and-both, and-left, and-right, not-so}
+use Rattle.sets.proofs.Bools.{and-both, and-left, and-right}
 use Rattle.hierarchy.specs.Tables.{Tables, Shaped, IsTable, row, kindOf, kind}
 use Rattle.board.specs.Effects.{hasI, hasA, pair, tableAfter, after}
 use Rattle.board.specs.Commands.{edgeKind}
 use Rattle.board.specs.declared.Command.{Command}
-use Rattle.board.proofs.Edits.{cond-true, table-entry, entry-3, entry-4, entry-5}
+use Rattle.board.proofs.Edits.{table-entry, table-is, named, entry-3, entry-4, living, tables-are}
 
 -- ---- the parts of a kind are the entries of its pair
 
@@ -64,9 +64,6 @@ module _ (c : Command) (l : c .role < 64) (m : c .junior < 64) where
     removed : c .code ≡ 4 → new ≡ (old && not p)
     removed e = table-entry c s j p t (c .role) (c .junior) l m ∙ entry-4 c s j p old (c .role) (c .junior) e ∙ ap (λ q. old && not (q && p)) here
 
-    changed : c .code ≡ 5 → new ≡ p
-    changed e = table-entry c s j p t (c .role) (c .junior) l m ∙ entry-5 c s j p old (c .role) (c .junior) e ∙ cond-true p old here
-
   module _ (t : Tables) where
     pub kind-added : c .code ≡ 3 → edgeKind (after t c) c ≡ both (edgeKind t c) (c .kind)
     unfolding after kind
@@ -80,6 +77,42 @@ module _ (c : Command) (l : c .role < 64) (m : c .junior < 64) where
         (removed _ _ _ (t .i) e ∙ ap (λ o. o && not (hasI (c .kind))) (bit-i t (c .role) (c .junior)))
         (removed _ _ _ (t .a) e ∙ ap (λ o. o && not (hasA (c .kind))) (bit-a t (c .role) (c .junior)))
 
-    pub kind-changed : c .code ≡ 5 → edgeKind (after t c) c ≡ kindOf (hasI (c .kind)) (hasA (c .kind))
-    unfolding after kind
-    kind-changed e = ap₂ kindOf (changed _ _ _ (t .i) e) (changed _ _ _ (t .a) e)
+-- ---- taking back what was added
+
+-- d removes just what c adds
+pub record TakesBack (c d : Command) : Type 0 where
+  pub adds : c .code ≡ 3
+  pub removes : d .code ≡ 4
+  pub role : d .role ≡ c .role
+  pub junior : d .junior ≡ c .junior
+  pub kind : d .kind ≡ c .kind
+
+-- no part that the command names stands
+pub record NoneStands (t : Tables) (c : Command) : Type 0 where
+  pub i : hasI (c .kind) ≡ true → bit (row (t .i) (c .role)) (c .junior) ≡ false
+  pub a : hasA (c .kind) ≡ true → bit (row (t .a) (c .role)) (c .junior) ≡ false
+
+back : (o q : Bool) → (q ≡ true → o ≡ false) → o ≡ ((o || q) && not q)
+back o true h = h refl ∙ sym (and-false (o || true))
+back o false h = sym (and-true (o || false) ∙ or-false o)
+
+module _ {c d : Command} (w : TakesBack c d) where
+  back-table : (s j s′ j′ : ℕ) (p : Bool) (t : List ℕ) → IsTable t → (p ≡ true → bit (row t (c .role)) (c .junior) ≡ false)
+      → t ≡ tableAfter d s′ j′ p (tableAfter c s j p t)
+  back-table s j s′ j′ p t whole free = table-is d s′ j′ p (tableAfter c s j p t) t whole
+      (λ x y l m.
+      let o = bit (row t x) y in
+      back o (pair c x y && p)
+      (λ q. named c x y t (and-left (pair c x y) p q) ∙ free (and-right (pair c x y) p q))
+      ∙ sym (entry-4 d s′ j′ p _ x y (w .removes)
+      ∙ ap₂ (λ n q. n && not (q && p)) (table-entry c s j p t x y l m ∙ entry-3 c s j p o x y (w .adds)) (ap₂ (λ u v. eqb x u && eqb y v) (w .role) (w .junior))))
+
+  -- It leaves the tables of before.
+  pub taken-back : (t : Tables) → Shaped t → NoneStands t c → after (after t c) d ≡ t
+  unfolding after
+  taken-back t shaped free = sym (tables-are (after t c) d (t .live) (t .i) (t .a) (hasI (c .kind)) (hasA (c .kind))
+      (living d _ (t .live) (shaped .live-fits) (λ k. absurd (omega (arith, w .removes))) (λ k. absurd (omega (arith, w .removes)))
+      (λ x. ap (λ (k : ℕ). bit k x)
+      (living c (t .live) (t .live) (shaped .live-fits) (λ k. absurd (omega (arith, w .adds))) (λ k. absurd (omega (arith, w .adds))) (λ x. refl))))
+      (ap hasI (sym (w .kind))) (back-table _ _ _ _ _ (t .i) record { rows = shaped .i-rows; fits = shaped .i-fits } (free .i))
+      (ap hasA (sym (w .kind))) (back-table _ _ _ _ _ (t .a) record { rows = shaped .a-rows; fits = shaped .a-fits } (free .a)))

@@ -59,7 +59,7 @@ module _ (c : Command) (formed : Malformed c → ⊥) where
   pub role-lt : c .role < 64
   role-lt = ⊎-elim (λ l. l) (λ g. absurd (formed (no-role g))) (lt-or-ge (c .role) 64)
 
-  junior-lt : 3 ≤ c .code → c .junior < 64
+  pub junior-lt : 3 ≤ c .code → c .junior < 64
   junior-lt n = ⊎-elim (λ l. l) (λ g. absurd (formed (no-junior n g))) (lt-or-ge (c .junior) 64)
 
   -- ---- row 6: whose scope is asked for

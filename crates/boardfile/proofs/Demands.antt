@@ -1,6 +1,6 @@
 -- Start here: the three demands of document 01 as theorems, each with the names of what it rests on. That a call always ends, and that
 -- its answer is as its promise says, is proved of each function by itself; these are about the promises. Assumes nothing.
-use mathlib.Core.Path.{_≡_, refl, sym, _∙_, subst}
+use mathlib.Core.Path.{_≡_, refl, sym, ap, _∙_, subst}
 use mathlib.Core.Bool.{Bool}
 use mathlib.Core.Logic.{_⊎_, inl, inr, ⊎-elim, ⊎-map, _≢_, _↔_, dite}
 use mathlib.Core.List.{List, [], _∷_}
@@ -19,7 +19,7 @@ use Rattle.hierarchy.proofs.FirstLaws.{first-unique, hit, pass, none}
 use Rattle.hierarchy.proofs.Theorems.{no-manager, one-manager, one-climb, one-way, climb-distinct, climb-short}
 use Rattle.board.specs.Boards.{tablesOf, foundingBoard, KeepsRight, SoundBoard}
 use Rattle.board.specs.Effects.{after}
-use Rattle.board.specs.Commands.{edgeKind, before, afterwards, Made, Decided}
+use Rattle.board.specs.Commands.{Malformed, edgeKind, before, afterwards, Made, Decided}
 use Rattle.board.specs.Commands.{refusals as commandRefusals}
 use Rattle.board.specs.Questions.{DerivesAnswer, ScopeAnswer, ManagerAnswer, StepsAnswer}
 use Rattle.board.specs.Questions.{refusals as questionRefusals}
@@ -28,6 +28,8 @@ use Rattle.board.specs.declared.Command.{Command}
 use Rattle.board.specs.declared.questions.Manager.{Manager}
 use Rattle.board.proofs.Founding.{founding-sound}
 use Rattle.board.proofs.SoundAfter.{idle-change}
+use Rattle.board.proofs.Parts.{both, less, kind-added, kind-removed, TakesBack, NoneStands, taken-back}
+use Rattle.board.proofs.Trying.{role-lt, junior-lt}
 use Rattle.board.proofs.Rules.{Passed, first-done, first-next}
 use Rattle.board.proofs.Settled.{board-stable, one-board, decided-unique, derives-unique, scope-unique, manager-answer-unique, steps-unique}
 use Rattle.board.proofs.Viewing.{derives-kept, derivers-kept, manager-kept, scope-kept, steps-kept}
@@ -117,6 +119,24 @@ module _ {b : Board} (wrong : KeepsRight b → ⊥) where
 
   pub wrong-value-writer : {entry exit : List ℕ} {at number len : ℕ} → WriteAnswer b entry at exit number len → number ≡ 1
   wrong-value-writer {entry} {at = at} {number = number} w = first-unique (writeRefusals b entry at) number 1 (w .numbered) (hit _ _ _ unsound)
+
+-- an edge is its parts (request 2): what is added joins what stands, what is removed leaves the rest, and the edge goes with its last part
+module _ {b next : Board} {c : Command} (d : Decided b c 0 next) where
+  formed : Malformed c → ⊥
+  formed = first-done (commandRefusals b c) refl (d .numbered) .1 .0
+
+  pub edge-added : c .code ≡ 3 → edgeKind (tablesOf next) c ≡ both (edgeKind (tablesOf b) c) (c .kind)
+  edge-added e = ap (λ t. edgeKind t c) (d .done refl .tables-are) ∙ kind-added c (role-lt c formed) (junior-lt c formed (omega (arith, e))) (tablesOf b) e
+
+  pub edge-removed : c .code ≡ 4 → edgeKind (tablesOf next) c ≡ less (edgeKind (tablesOf b) c) (c .kind)
+  edge-removed e = ap (λ t. edgeKind t c) (d .done refl .tables-are) ∙ kind-removed c (role-lt c formed) (junior-lt c formed (omega (arith, e))) (tablesOf b) e
+
+  -- and what was added where no part of it stood is taken back by a removal of the same, which leaves the very board of before
+  pub added-taken-back : {last : Board} {r : Command} → Decided next r 0 last → TakesBack c r → NoneStands (tablesOf b) c → last ≡ b
+  added-taken-back {last} {r} again w free =
+      let made = again .done refl in
+      board-stable last b (λ k. first-done (commandRefusals b c) refl (d .numbered) .0 (λ s. k (one-board (made .fit) s
+      (made .tables-are ∙ ap (λ t. after t r) (d .done refl .tables-are) ∙ taken-back w (tablesOf b) (s .sound .shaped) free))))
 
 -- changing an edge to the kind it has leaves the very board, whatever the number
 pub same-kind-again : {b next : Board} {c : Command} {number : ℕ} → Decided b c number next → c .code ≡ 5 → edgeKind (tablesOf b) c ≡ c .kind → next ≡ b
