@@ -205,10 +205,11 @@ fn refused_before<'t>(
         return 3;
     }
     let parts = parts_stand(i, a, c);
+    let edge = linked(i, a, c);
     if standing(live, c, parts) {
         return 4;
     }
-    if no_edge(c, parts, linked(i, a, c)) {
+    if no_edge(c, parts, edge) {
         return 5;
     }
     if within_scope(scope(down, up, c.actor as usize), c) {

@@ -27,11 +27,11 @@ present-at c = fails (missing-row (board (c .before .before .before .before)) _ 
 parts-at : (c : tie.After-parts-stand) → (c .parts-stand .result ≡ true) ↔ PartsStand (board (c .before .before .before .before .before)) (c .before .before .before .before .before .args .c)
 parts-at c = parts-row (board (c .before .before .before .before .before)) (c .before .before .before .before .before .args .c) (c .parts-stand .ensures)
 
-free-at : (c : tie.Else3) → Standing (board (c .before .before .before .before .before .before .before)) (c .before .before .before .before .before .before .before .args .c) → ⊥
-free-at c = fails (standing-row _ _ (parts-at (c .before .before)) (c .before .standing .ensures)) (c .if3 .left)
+free-at : (c : tie.Else3) → Standing (board (c .before .before .before .before .before .before .before .before)) (c .before .before .before .before .before .before .before .before .args .c) → ⊥
+free-at c = fails (standing-row _ _ (parts-at (c .before .before .before)) (c .before .standing .ensures)) (c .if3 .left)
 
 edge-at : (c : tie.After-no-edge) → (c .no-edge .result ≡ true) ↔ NoEdge (board (c .before .before .before .before .before .before .before .before .before)) (c .before .before .before .before .before .before .before .before .before .args .c)
-edge-at c = no-edge-row _ _ (parts-at (c .before .before .before .before)) (edge-row (board (c .before .before .before .before .before .before .before .before .before)) (c .before .before .before .before .before .before .before .before .before .args .c) (c .before .linked .ensures)) (c .no-edge .ensures)
+edge-at c = no-edge-row _ _ (parts-at (c .before .before .before .before)) (edge-row (board (c .before .before .before .before .before .before .before .before .before)) (c .before .before .before .before .before .before .before .before .before .args .c) (c .before .before .before .linked .ensures)) (c .no-edge .ensures)
 
 there-at : (c : tie.Else4) → NoEdge (board (c .before .before .before .before .before .before .before .before .before .before)) (c .before .before .before .before .before .before .before .before .before .before .args .c) → ⊥
 there-at c = fails (edge-at (c .before)) (c .if4 .left)
@@ -51,20 +51,20 @@ returns-2 c = refused-3 _ _ _ (formed-at (c .before .before)) (holds (missing-ro
 parts-stand-requires : tie.Need-parts-stand-requires
 parts-stand-requires c κs = formed-at (c .before .before)
 
+linked-requires : tie.Need-linked-requires
+linked-requires c κs = formed-at (c .before .before .before)
+
 standing-requires : tie.Need-standing-requires
 standing-requires c κs = search needs
 
 returns-3 : tie.Need-returns-3
-returns-3 c = refused-4 _ _ _ (formed-at (c .before .before .before .before .before)) (present-at (c .before .before .before)) (holds (standing-row _ _ (parts-at (c .before .before)) (c .before .standing .ensures)) (c .if3 .taken))
-
-linked-requires : tie.Need-linked-requires
-linked-requires c κs = formed-at (c .before .before .before .before .before)
+returns-3 c = refused-4 _ _ _ (formed-at (c .before .before .before .before .before .before)) (present-at (c .before .before .before .before)) (holds (standing-row _ _ (parts-at (c .before .before .before)) (c .before .standing .ensures)) (c .if3 .taken))
 
 no-edge-requires : tie.Need-no-edge-requires
 no-edge-requires c κs = search needs
 
 returns-4 : tie.Need-returns-4
-returns-4 c = refused-5 _ _ _ (formed-at (c .before .before .before .before .before .before .before .before)) (present-at (c .before .before .before .before .before .before)) (free-at (c .before .before .before)) (holds (edge-at (c .before)) (c .if4 .taken))
+returns-4 c = refused-5 _ _ _ (formed-at (c .before .before .before .before .before .before .before .before)) (present-at (c .before .before .before .before .before .before)) (free-at (c .before .before)) (holds (edge-at (c .before)) (c .if4 .taken))
 
 cast-scope : tie.Need-cast-scope
 cast-scope c = search needs
@@ -76,10 +76,10 @@ within-scope-requires : tie.Need-within-scope-requires
 within-scope-requires c κs = formed-at (c .before .before .before .before .before .before .before .before .before .before)
 
 returns-5 : tie.Need-returns-5
-returns-5 c = refused-not _ _ _ (formed-at (c .before .before .before .before .before .before .before .before .before .before .before .before)) (present-at (c .before .before .before .before .before .before .before .before .before .before)) (free-at (c .before .before .before .before .before .before .before)) (there-at (c .before .before .before .before)) (holds (scope-at (c .before)) (c .if5 .taken))
+returns-5 c = refused-not _ _ _ (formed-at (c .before .before .before .before .before .before .before .before .before .before .before .before)) (present-at (c .before .before .before .before .before .before .before .before .before .before)) (free-at (c .before .before .before .before .before .before)) (there-at (c .before .before .before .before)) (holds (scope-at (c .before)) (c .if5 .taken))
 
 returns-6 : tie.Need-returns-6
-returns-6 c = refused-6 _ _ _ (formed-at (c .before .before .before .before .before .before .before .before .before .before .before .before)) (present-at (c .before .before .before .before .before .before .before .before .before .before)) (free-at (c .before .before .before .before .before .before .before)) (there-at (c .before .before .before .before)) (fails (scope-at (c .before)) (c .if5 .left))
+returns-6 c = refused-6 _ _ _ (formed-at (c .before .before .before .before .before .before .before .before .before .before .before .before)) (present-at (c .before .before .before .before .before .before .before .before .before .before)) (free-at (c .before .before .before .before .before .before)) (there-at (c .before .before .before .before)) (fails (scope-at (c .before)) (c .if5 .left))
 
 pub refused-before-spec : {M : Type 1} → statement M
 refused-before-spec =
@@ -90,9 +90,9 @@ refused-before-spec =
     missing-requires
     returns-2
     parts-stand-requires
+    linked-requires
     standing-requires
     returns-3
-    linked-requires
     no-edge-requires
     returns-4
     cast-scope
