@@ -6,7 +6,7 @@ pub mod Viewing
 pub mod Founding
 pub mod Rules
 pub mod Edits
-pub mod Parts
+pub mod EdgeParts
 pub mod Looking
 pub mod Trying
 pub mod Asking

@@ -22,7 +22,7 @@ use Rattle.board.specs.Commands.{asSenior, asJunior, needed, strictly, M
 use Rattle.board.specs.declared.Command.{Command}
 use Rattle.board.proofs.Rules.{stable, first-done}
 use Rattle.board.proofs.Edits.{table-length, table-fits, in-table, entry-1, entry-2, entry-other, idles, living, tables-are}
-use Rattle.board.proofs.Parts.{bit-i, bit-a}
+use Rattle.board.proofs.EdgeParts.{bit-i, bit-a}
 
 -- ---- the shape, by construction
 

@@ -21,8 +21,8 @@ use Rattle.hierarchy.proofs.Derive.{edge-entry}
 use Rattle.hierarchy.proofs.FirstLaws.{hit, pass, none}
 use Rattle.hierarchy.proofs.ViewLaws.{admin-by}
 use Rattle.board.specs.Boards.{tablesOf, KeepsRight, SoundBoard}
-use Rattle.board.specs.Commands.{Malformed, asSenior, asJunior, needed, Missing, edgeKind, PartsStand, Standing, NoEdge, scoped, strictly, InScope, Outside, before, DecidedBy, Decided}
-use Rattle.board.specs.Commands.{Malformed.no-code, Malformed.no-actor, Malformed.no-role, Malformed.no-junior, Malformed.no-kind, Standing.role, Standing.edge, NoEdge.no-part, NoEdge.no-edge}
+use Rattle.board.specs.Commands.{Malformed, asSenior, asJunior, needed, Missing, edgeKind, PartsStand, Standing, Lacking, scoped, strictly, InScope, Outside, before, DecidedBy, Decided}
+use Rattle.board.specs.Commands.{Malformed.no-code, Malformed.no-actor, Malformed.no-role, Malformed.no-junior, Malformed.no-kind, Standing.role, Standing.edge, Lacking.no-part, Lacking.no-edge}
 use Rattle.board.specs.Effects.{hasI, hasA, after}
 use Rattle.board.specs.Looks.{OutsideBy, late}
 use Rattle.board.specs.declared.Board.{Board}
@@ -208,13 +208,13 @@ module _ (b : Tables) (c : Command) where
         rows (role e m) = inl (e, m)
         rows (edge e n) = inr (e, n)
 
-    pub no-edge-row : {linked r : Bool} → (linked ≡ true) ↔ (edgeKind b c ≢ 0) → r ≡ ((eqb (c .code) 4 && not parts) || (eqb (c .code) 5 && not linked)) → (r ≡ true) ↔ NoEdge b c
-    no-edge-row is h = same-test h (Iff·trans (or-is (and-is (eq-is (c .code) 4) (λ _. not-is stand)) (and-is (eq-is (c .code) 5) (λ _. not-is is))) (
+    pub lacking-row : {linked r : Bool} → (linked ≡ true) ↔ (edgeKind b c ≢ 0) → r ≡ ((eqb (c .code) 4 && not parts) || (eqb (c .code) 5 && not linked)) → (r ≡ true) ↔ Lacking b c
+    lacking-row is h = same-test h (Iff·trans (or-is (and-is (eq-is (c .code) 4) (λ _. not-is stand)) (and-is (eq-is (c .code) 5) (λ _. not-is is))) (
       ⊎-elim (λ w. no-part (w .0) (w .1)) (λ w. no-edge (w .0) (stable (ℕ-discrete (edgeKind b c) 0) (w .1))),
       rows,
     ))
       where
-        rows : NoEdge b c → ((c .code ≡ 4) × (PartsStand b c → ⊥)) ⊎ ((c .code ≡ 5) × ((edgeKind b c ≢ 0) → ⊥))
+        rows : Lacking b c → ((c .code ≡ 4) × (PartsStand b c → ⊥)) ⊎ ((c .code ≡ 5) × ((edgeKind b c ≢ 0) → ⊥))
         rows (no-part e n) = inl (e, n)
         rows (no-edge e z) = inr (e, λ k. k z)
 
@@ -236,11 +236,11 @@ module _ (In : ℕ → ℕ → Type 0) (b : Tables) (c : Command) where
       refused-4 s = pass _ _ _ _ formed (pass _ _ _ _ present (hit _ _ _ s))
 
       module _ (free : Standing b c → ⊥) where
-        pub refused-5 : NoEdge b c → First (before In b c) 5
+        pub refused-5 : Lacking b c → First (before In b c) 5
         refused-5 n = pass _ _ _ _ formed (pass _ _ _ _ present (pass _ _ _ _ free (hit _ _ _ n)))
 
-        module _ (there : NoEdge b c → ⊥) where
-          past-5 : (n : ℕ) (rest : List (ℕ × Type 0)) → First rest n → First ((2, Malformed c) ∷ (3, Missing b c) ∷ (4, Standing b c) ∷ (5, NoEdge b c) ∷ rest) n
+        module _ (there : Lacking b c → ⊥) where
+          past-5 : (n : ℕ) (rest : List (ℕ × Type 0)) → First rest n → First ((2, Malformed c) ∷ (3, Missing b c) ∷ (4, Standing b c) ∷ (5, Lacking b c) ∷ rest) n
           past-5 n rest f = pass _ _ _ _ formed (pass _ _ _ _ present (pass _ _ _ _ free (pass _ _ rest _ there f)))
 
           pub refused-6 : (InScope In c → ⊥) → First (before In b c) 6

@@ -52,6 +52,7 @@ pub record Missing (t : Tables) (c : Command) : Type 0 where
 
 -- ---- rows 4 and 5, an edge taken by its parts as request 2 has it
 
+-- the kind of the edge that the command names, 0 where there is none
 abbrev pub edgeKind : Tables → Command → ℕ
 edgeKind t c = kind t (c .role) (c .junior)
 
@@ -65,10 +66,10 @@ pub data Standing (t : Tables) (c : Command) : Type 0 where
   role : c .code ≡ 1 → c .role isIn t .live → Standing t c
   edge : c .code ≡ 3 → PartsStand t c → Standing t c
 
--- what is to go or to change is not: a part that a removal names, or an edge of any kind to change
-pub data NoEdge (t : Tables) (c : Command) : Type 0 where
-  no-part : c .code ≡ 4 → (PartsStand t c → ⊥) → NoEdge t c
-  no-edge : c .code ≡ 5 → edgeKind t c ≡ 0 → NoEdge t c
+-- what is to go or to change is missing: a part that a removal names, or an edge, of whatever kind, to change
+pub data Lacking (t : Tables) (c : Command) : Type 0 where
+  no-part : c .code ≡ 4 → (PartsStand t c → ⊥) → Lacking t c
+  no-edge : c .code ≡ 5 → edgeKind t c ≡ 0 → Lacking t c
 
 -- ---- row 6: the column "Scope condition before"
 
@@ -100,7 +101,7 @@ before In t c =
     (2, Malformed c)
     ∷ (3, Missing t c)
     ∷ (4, Standing t c)
-    ∷ (5, NoEdge t c)
+    ∷ (5, Lacking t c)
     ∷ (6, (InScope In c → ⊥))
     ∷ []
 

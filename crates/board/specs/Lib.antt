@@ -1,7 +1,8 @@
--- The board, its commands and its questions, as document 01 has them.
+-- The board, its commands and its questions, as document 01 and the requests that have landed have them.
 pub mod Boards
 pub mod Effects
 pub mod Commands
+pub mod EdgeParts
 pub mod Questions
 pub mod Looks
 pub mod Rows

@@ -151,7 +151,7 @@ fn standing(live: u64, c: Command, parts: bool) -> bool
 }
 
 // 5: a part to be removed is missing, or there is no edge to change.
-fn no_edge(c: Command, parts: bool, edge: bool) -> bool
+fn lacking(c: Command, parts: bool, edge: bool) -> bool
     ensures { λ r. ⌜ r ≡ ((eqb (c .code) 4 && not parts) || (eqb (c .code) 5 && not edge)) ⌝ }
 {
     if c.code == 4 {
@@ -209,7 +209,7 @@ fn refused_before<'t>(
     if standing(live, c, parts) {
         return 4;
     }
-    if no_edge(c, parts, edge) {
+    if lacking(c, parts, edge) {
         return 5;
     }
     if within_scope(scope(down, up, c.actor as usize), c) {

@@ -21,6 +21,7 @@ use Rattle.board.specs.Boards.{tablesOf, foundingBoard, KeepsRight, SoundBoard}
 use Rattle.board.specs.Effects.{after}
 use Rattle.board.specs.Commands.{Malformed, edgeKind, before, afterwards, Made, Decided}
 use Rattle.board.specs.Commands.{refusals as commandRefusals}
+use Rattle.board.specs.EdgeParts.{both, less, NoneStands, TakesBack}
 use Rattle.board.specs.Questions.{DerivesAnswer, ScopeAnswer, ManagerAnswer, StepsAnswer}
 use Rattle.board.specs.Questions.{refusals as questionRefusals}
 use Rattle.board.specs.declared.Board.{Board}
@@ -28,7 +29,7 @@ use Rattle.board.specs.declared.Command.{Command}
 use Rattle.board.specs.declared.questions.Manager.{Manager}
 use Rattle.board.proofs.Founding.{founding-sound}
 use Rattle.board.proofs.SoundAfter.{idle-change}
-use Rattle.board.proofs.Parts.{both, less, kind-added, kind-removed, TakesBack, NoneStands, taken-back}
+use Rattle.board.proofs.EdgeParts.{kind-added, kind-removed, taken-back}
 use Rattle.board.proofs.Trying.{role-lt, junior-lt}
 use Rattle.board.proofs.Rules.{Passed, first-done, first-next}
 use Rattle.board.proofs.Settled.{board-stable, one-board, decided-unique, derives-unique, scope-unique, manager-answer-unique, steps-unique}

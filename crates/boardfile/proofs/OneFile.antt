@@ -16,7 +16,7 @@ use Rattle.hierarchy.specs.Tables.{Tables, Shaped, row, kind}
 use Rattle.board.specs.Boards.{tablesOf, SoundBoard}
 use Rattle.board.specs.Effects.{hasI, hasA}
 use Rattle.board.specs.declared.Board.{Board}
-use Rattle.board.proofs.Parts.{bit-i, bit-a}
+use Rattle.board.proofs.EdgeParts.{bit-i, bit-a}
 use Rattle.board.proofs.Settled.{one-board as one-sound-board}
 use Rattle.boardfile.specs.Files.{from, records, edge?, edgeBytes, bytesOf, kindAt, fileOf}
 use Rattle.boardfile.specs.Faults.{edgeDistance, roleCount}

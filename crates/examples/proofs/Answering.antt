@@ -18,13 +18,13 @@ use Rattle.hierarchy.proofs.Checks.{all-is, any-is, and-is, or-is, if-is, not-i
 use Rattle.hierarchy.proofs.Decide.{scope-is, admin-is, loops-is, managed-is, sound-is, sound-dec}
 use Rattle.board.specs.Boards.{tablesOf, KeepsRight, SoundBoard}
 use Rattle.board.specs.Effects.{hasI, hasA, after}
-use Rattle.board.specs.Commands.{Malformed, Missing, PartsStand, Standing, NoEdge, InScope, Outside, asSenior, asJunior, needed, scoped, strictly, edgeKind, afterwards, onTables, refusals}
-use Rattle.board.specs.Commands.{Malformed.no-code, Malformed.no-actor, Malformed.no-role, Malformed.no-junior, Malformed.no-kind, Standing.role, Standing.edge, NoEdge.no-part, NoEdge.no-edge}
+use Rattle.board.specs.Commands.{Malformed, Missing, PartsStand, Standing, Lacking, InScope, Outside, asSenior, asJunior, needed, scoped, strictly, edgeKind, afterwards, onTables, refusals}
+use Rattle.board.specs.Commands.{Malformed.no-code, Malformed.no-actor, Malformed.no-role, Malformed.no-junior, Malformed.no-kind, Standing.role, Standing.edge, Lacking.no-part, Lacking.no-edge}
 use Rattle.board.proofs.Rules.{stable, first-alike}
 use Rattle.board.proofs.SoundAfter.{shaped-after}
 use Rattle.board.specs.declared.Board.{Board}
 use Rattle.board.specs.declared.Command.{Command}
-use Rattle.examples.specs.Answer.{malformed?, missing?, partsStand?, standing?, noEdge?, inScope?, outside?, first?, afterwards?, answer?, Fits, fits?}
+use Rattle.examples.specs.Answer.{malformed?, missing?, partsStand?, standing?, lacking?, inScope?, outside?, first?, afterwards?, answer?, Fits, fits?}
 use Rattle.examples.proofs.Leaving.{left-is}
 
 is : (p : Bool) → (p ≡ true) ↔ (p ≡ true)
@@ -78,9 +78,9 @@ standing-is t c =
       λ s. i .1 (elim s [ role e h ↦ inl (e, h) | edge e h ↦ inr (e, h) ]),
     )
 
-noEdge-is : (t : Tables) (c : Command) → (noEdge? t c ≡ true) ↔ NoEdge t c
-unfolding noEdge?
-noEdge-is t c =
+lacking-is : (t : Tables) (c : Command) → (lacking? t c ≡ true) ↔ Lacking t c
+unfolding lacking?
+lacking-is t c =
     let i = or-is (and-is (eq-is (c .code) 4) (λ _. not-is (parts-is t c))) (and-is (eq-is (c .code) 5) (λ _. eq-is (edgeKind t c) 0)) in (
       λ e. ⊎-elim (λ h. no-part (h .0) (h .1)) (λ h. no-edge (h .0) (h .1)) (i .0 e),
       λ n. i .1 (elim n [ no-part e h ↦ inl (e, h) | no-edge e h ↦ inr (e, h) ]),
@@ -172,7 +172,7 @@ answer-is t c fits =
     tried 2 _ _ (malformed-is c) (λ well.
     tried 3 _ _ (missing-is t fits well) (λ _.
     tried 4 _ _ (standing-is t c) (λ _.
-    tried 5 _ _ (noEdge-is t c) (λ _.
+    tried 5 _ _ (lacking-is t c) (λ _.
     tried 6 _ _ (not-is (inScope-is t fits well s)) (λ _.
     subst (λ d. First (afterwards (after t c) c) (first? (afterwards? d c))) (sym (left-is t c s)) (afterwards-is (after t c) c (shaped-after t c))))))))
 

@@ -50,8 +50,8 @@ partsStand? t c =
 unfoldable pub standing? : Tables → Command → Bool
 standing? t c = (eqb (c .code) 1 && bit (t .live) (c .role)) || (eqb (c .code) 3 && partsStand? t c)
 
-unfoldable pub noEdge? : Tables → Command → Bool
-noEdge? t c = (eqb (c .code) 4 && not (partsStand? t c)) || (eqb (c .code) 5 && eqb (edgeKind t c) 0)
+unfoldable pub lacking? : Tables → Command → Bool
+lacking? t c = (eqb (c .code) 4 && not (partsStand? t c)) || (eqb (c .code) 5 && eqb (edgeKind t c) 0)
 
 unfoldable pub inScope? : Tables → Command → Bool
 inScope? t c =
@@ -74,7 +74,7 @@ before? t c =
     ∷ (2, malformed? c)
     ∷ (3, missing? t c)
     ∷ (4, standing? t c)
-    ∷ (5, noEdge? t c)
+    ∷ (5, lacking? t c)
     ∷ (6, not (inScope? t c))
     ∷ []
 

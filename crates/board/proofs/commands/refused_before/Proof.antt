@@ -3,9 +3,9 @@ use mathlib.Core.Bool.{true}
 use mathlib.Core.Logic.{_↔_, Iff·trans}
 use Rattle.hierarchy.specs.Views.{ScopeBy}
 use Rattle.hierarchy.specs.Tables.{Tables, tables}
-use Rattle.board.specs.Commands.{Malformed, Missing, PartsStand, Standing, NoEdge, InScope}
+use Rattle.board.specs.Commands.{Malformed, Missing, PartsStand, Standing, Lacking, InScope}
 use Rattle.board.proofs.Looking.{holds, fails}
-use Rattle.board.proofs.Trying.{missing-row, edge-row, parts-row, standing-row, no-edge-row, in-scope-alike, refused-2, refused-3, refused-4, refused-5, refused-6, refused-not}
+use Rattle.board.proofs.Trying.{missing-row, edge-row, parts-row, standing-row, lacking-row, in-scope-alike, refused-2, refused-3, refused-4, refused-5, refused-6, refused-not}
 use borrow.Author.Needs.{needs}
 use Rattle.board.proofs.commands.refused_before.Statement.{statement}
 use Rattle.board.proofs.commands.refused_before.Tie as tie
@@ -30,10 +30,10 @@ parts-at c = parts-row (board (c .before .before .before .before .before)) (c .b
 free-at : (c : tie.Else3) → Standing (board (c .before .before .before .before .before .before .before .before)) (c .before .before .before .before .before .before .before .before .args .c) → ⊥
 free-at c = fails (standing-row _ _ (parts-at (c .before .before .before)) (c .before .standing .ensures)) (c .if3 .left)
 
-edge-at : (c : tie.After-no-edge) → (c .no-edge .result ≡ true) ↔ NoEdge (board (c .before .before .before .before .before .before .before .before .before)) (c .before .before .before .before .before .before .before .before .before .args .c)
-edge-at c = no-edge-row _ _ (parts-at (c .before .before .before .before)) (edge-row (board (c .before .before .before .before .before .before .before .before .before)) (c .before .before .before .before .before .before .before .before .before .args .c) (c .before .before .before .linked .ensures)) (c .no-edge .ensures)
+edge-at : (c : tie.After-lacking) → (c .lacking .result ≡ true) ↔ Lacking (board (c .before .before .before .before .before .before .before .before .before)) (c .before .before .before .before .before .before .before .before .before .args .c)
+edge-at c = lacking-row _ _ (parts-at (c .before .before .before .before)) (edge-row (board (c .before .before .before .before .before .before .before .before .before)) (c .before .before .before .before .before .before .before .before .before .args .c) (c .before .before .before .linked .ensures)) (c .lacking .ensures)
 
-there-at : (c : tie.Else4) → NoEdge (board (c .before .before .before .before .before .before .before .before .before .before)) (c .before .before .before .before .before .before .before .before .before .before .args .c) → ⊥
+there-at : (c : tie.Else4) → Lacking (board (c .before .before .before .before .before .before .before .before .before .before)) (c .before .before .before .before .before .before .before .before .before .before .args .c) → ⊥
 there-at c = fails (edge-at (c .before)) (c .if4 .left)
 
 scope-at : (c : tie.After-within-scope) → (c .within-scope .result ≡ true) ↔ InScope (ScopeBy (c .before .before .before .before .before .before .before .before .before .before .before .before .before .args .down .now) (c .before .before .before .before .before .before .before .before .before .before .before .before .before .args .up .now)) (c .before .before .before .before .before .before .before .before .before .before .before .before .before .args .c)
@@ -60,8 +60,8 @@ standing-requires c κs = search needs
 returns-3 : tie.Need-returns-3
 returns-3 c = refused-4 _ _ _ (formed-at (c .before .before .before .before .before .before)) (present-at (c .before .before .before .before)) (holds (standing-row _ _ (parts-at (c .before .before .before)) (c .before .standing .ensures)) (c .if3 .taken))
 
-no-edge-requires : tie.Need-no-edge-requires
-no-edge-requires c κs = search needs
+lacking-requires : tie.Need-lacking-requires
+lacking-requires c κs = search needs
 
 returns-4 : tie.Need-returns-4
 returns-4 c = refused-5 _ _ _ (formed-at (c .before .before .before .before .before .before .before .before)) (present-at (c .before .before .before .before .before .before)) (free-at (c .before .before)) (holds (edge-at (c .before)) (c .if4 .taken))
@@ -93,7 +93,7 @@ refused-before-spec =
     linked-requires
     standing-requires
     returns-3
-    no-edge-requires
+    lacking-requires
     returns-4
     cast-scope
     scope-requires

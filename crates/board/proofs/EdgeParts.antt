@@ -11,6 +11,7 @@ use Rattle.sets.proofs.Bools.{and-both, and-left, and-right}
 use Rattle.hierarchy.specs.Tables.{Tables, Shaped, IsTable, row, kindOf, kind}
 use Rattle.board.specs.Effects.{hasI, hasA, pair, tableAfter, after}
 use Rattle.board.specs.Commands.{edgeKind}
+use Rattle.board.specs.EdgeParts.{both, less, NoneStands, TakesBack}
 use Rattle.board.specs.declared.Command.{Command}
 use Rattle.board.proofs.Edits.{table-entry, table-is, named, entry-3, entry-4, living, tables-are}
 
@@ -38,13 +39,6 @@ module _ (t : Tables) (x y : ℕ) where
   bit-a = part-a (bit (row (t .i) x) y) (bit (row (t .a) x) y)
 
 -- ---- what a command leaves of its own edge
-
--- the kind with the parts of either; and the parts of the first that the second lacks
-abbrev pub both : ℕ → ℕ → ℕ
-both h k = kindOf (hasI h || hasI k) (hasA h || hasA k)
-
-abbrev pub less : ℕ → ℕ → ℕ
-less h k = kindOf (hasI h && not (hasI k)) (hasA h && not (hasA k))
 
 module _ (c : Command) (l : c .role < 64) (m : c .junior < 64) where
   here : pair c (c .role) (c .junior) ≡ true
@@ -78,19 +72,6 @@ module _ (c : Command) (l : c .role < 64) (m : c .junior < 64) where
         (removed _ _ _ (t .a) e ∙ ap (λ o. o && not (hasA (c .kind))) (bit-a t (c .role) (c .junior)))
 
 -- ---- taking back what was added
-
--- d removes just what c adds
-pub record TakesBack (c d : Command) : Type 0 where
-  pub adds : c .code ≡ 3
-  pub removes : d .code ≡ 4
-  pub role : d .role ≡ c .role
-  pub junior : d .junior ≡ c .junior
-  pub kind : d .kind ≡ c .kind
-
--- no part that the command names stands
-pub record NoneStands (t : Tables) (c : Command) : Type 0 where
-  pub i : hasI (c .kind) ≡ true → bit (row (t .i) (c .role)) (c .junior) ≡ false
-  pub a : hasA (c .kind) ≡ true → bit (row (t .a) (c .role)) (c .junior) ≡ false
 
 back : (o q : Bool) → (q ≡ true → o ≡ false) → o ≡ ((o || q) && not q)
 back o true h = h refl ∙ sym (and-false (o || true))
