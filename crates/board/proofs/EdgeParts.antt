@@ -52,7 +52,7 @@ module _ (c : Command) (l : c .role < 64) (m : c .junior < 64) where
     abbrev new : Bool
     new = bit (row (tableAfter c s j p t) (c .role)) (c .junior)
 
-    added : c .code ≡ 3 → new ≡ (old || p)
+    pub added : c .code ≡ 3 → new ≡ (old || p)
     added e = table-entry c s j p t (c .role) (c .junior) l m ∙ entry-3 c s j p old (c .role) (c .junior) e ∙ ap (λ q. old || (q && p)) here
 
     removed : c .code ≡ 4 → new ≡ (old && not p)

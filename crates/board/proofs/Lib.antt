@@ -7,6 +7,7 @@ pub mod Founding
 pub mod Rules
 pub mod Edits
 pub mod EdgeParts
+pub mod TakingBack
 pub mod Looking
 pub mod Trying
 pub mod Asking
