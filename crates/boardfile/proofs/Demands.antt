@@ -19,7 +19,7 @@ use Rattle.hierarchy.proofs.FirstLaws.{first-unique, hit, pass, none}
 use Rattle.hierarchy.proofs.Theorems.{no-manager, one-manager, one-climb, one-way, climb-distinct, climb-short}
 use Rattle.board.specs.Boards.{tablesOf, foundingBoard, KeepsRight, SoundBoard}
 use Rattle.board.specs.Effects.{after}
-use Rattle.board.specs.Commands.{Malformed, edgeKind, before, afterwards, Made, Decided}
+use Rattle.board.specs.Commands.{Malformed, edgeKind, before, afterwards, onTables, Made, Decided}
 use Rattle.board.specs.Commands.{refusals as commandRefusals}
 use Rattle.board.specs.EdgeParts.{both, less, NoneStands, TakesBack}
 use Rattle.board.specs.Questions.{DerivesAnswer, ScopeAnswer, ManagerAnswer, StepsAnswer}
@@ -30,8 +30,9 @@ use Rattle.board.specs.declared.questions.Manager.{Manager}
 use Rattle.board.proofs.Founding.{founding-sound}
 use Rattle.board.proofs.SoundAfter.{idle-change}
 use Rattle.board.proofs.EdgeParts.{kind-added, kind-removed, taken-back}
+use Rattle.board.proofs.TakingBack.{sound-passes, back-granted}
 use Rattle.board.proofs.Trying.{role-lt, junior-lt}
-use Rattle.board.proofs.Rules.{Passed, first-done, first-next}
+use Rattle.board.proofs.Rules.{stable, Passed, first-done, first-without, first-next}
 use Rattle.board.proofs.Settled.{board-stable, one-board, decided-unique, derives-unique, scope-unique, manager-answer-unique, steps-unique}
 use Rattle.board.proofs.Viewing.{derives-kept, derivers-kept, manager-kept, scope-kept, steps-kept}
 use Rattle.boardfile.specs.declared.commands.Place.{Place}
@@ -132,12 +133,18 @@ module _ {b next : Board} {c : Command} (d : Decided b c 0 next) where
   pub edge-removed : c .code ≡ 4 → edgeKind (tablesOf next) c ≡ less (edgeKind (tablesOf b) c) (c .kind)
   edge-removed e = ap (λ t. edgeKind t c) (d .done refl .tables-are) ∙ kind-removed c (role-lt c formed) (junior-lt c formed (omega (arith, e))) (tablesOf b) e
 
-  -- and what was added where no part of it stood is taken back by a removal of the same, which leaves the very board of before
-  pub added-taken-back : {last : Board} {r : Command} → Decided next r 0 last → TakesBack c r → NoneStands (tablesOf b) c → last ≡ b
-  added-taken-back {last} {r} again w free =
-      let made = again .done refl in
-      board-stable last b (λ k. first-done (commandRefusals b c) refl (d .numbered) .0 (λ s. k (one-board (made .fit) s
-      (made .tables-are ∙ ap (λ t. after t r) (d .done refl .tables-are) ∙ taken-back w (tablesOf b) (s .sound .shaped) free))))
+  -- what was added where no part of it stood the same actor can take back at once, and that leaves the very board of before
+  pub added-taken-back : {last : Board} {r : Command} {number : ℕ} → Decided next r number last → TakesBack c r → NoneStands (tablesOf b) c → (number ≡ 0) × (last ≡ b)
+  added-taken-back {last} {r} {number} again w free =
+      let passed = first-done (commandRefusals b c) refl (d .numbered) in
+      let now = d .done refl in
+      let zero : number ≡ 0 = stable (ℕ-discrete number 0) (λ k. passed .0 (λ s. k (first-unique (commandRefusals next r) number 0 (again .numbered)
+      (pass _ _ _ _ (λ n. n (now .fit)) (subst (λ t. First (onTables t r) 0) (sym (now .tables-are)) (back-granted (tablesOf b) w (s .sound) (first-without _ _ _ _ (passed .0) (d .numbered)) free)))))) in
+      let made = again .done zero in (
+        zero,
+        board-stable last b (λ k. passed .0 (λ s. k (one-board (made .fit) s
+            (made .tables-are ∙ ap (λ t. after t r) (now .tables-are) ∙ taken-back w (tablesOf b) (s .sound .shaped) free)))),
+      )
 
 -- changing an edge to the kind it has leaves the very board, whatever the number
 pub same-kind-again : {b next : Board} {c : Command} {number : ℕ} → Decided b c number next → c .code ≡ 5 → edgeKind (tablesOf b) c ≡ c .kind → next ≡ b
@@ -154,7 +161,7 @@ pub same-kind-done : {b next : Board} {c : Command} {number : ℕ} → Decided b
 same-kind-done {b} {c = c} {number = number} d s passed e same = first-unique (commandRefusals b c) number 0 (d .numbered)
     (pass _ _ _ _ (λ k. k s) (first-next (before (Scope (tablesOf b)) (tablesOf b) c) (afterwards (after (tablesOf b) c) c) 0 passed
     (subst (λ (t : Tables). First (afterwards t c) 0) (sym (idle-change (tablesOf b) c (s .sound .shaped) e same))
-    (pass _ _ _ _ (s .sound .loopless) (pass _ _ _ _ (λ o. absurd (omega (arith, o .adds, e))) (pass _ _ _ _ (λ n. n (s .sound .managed)) none))))))
+    (sound-passes (tablesOf b) c (s .sound) (λ k. absurd (omega arith))))))
 
 module _ (b : Board) where
   pub one-derives : (x y : ℕ) {m n : ℕ} {p q : Bool} → DerivesAnswer b x y m p → DerivesAnswer b x y n q → (m ≡ n) × (p ≡ q)
