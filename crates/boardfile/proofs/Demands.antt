@@ -15,7 +15,7 @@ use Rattle.hierarchy.specs.Words.{Derives, Scope, LineManager, Sound, Climb}
 use Rattle.hierarchy.specs.Views.{ScopeBy, ManagerIs, managerAt, stepsUp}
 use Rattle.hierarchy.specs.First.{First}
 use Rattle.hierarchy.proofs.ClimbLaws.{Distinct, met}
-use Rattle.hierarchy.proofs.FirstLaws.{first-unique, hit, pass, none}
+use Rattle.hierarchy.proofs.FirstLaws.{first-unique, hit, pass}
 use Rattle.hierarchy.proofs.Theorems.{no-manager, one-manager, one-climb, one-way, climb-distinct, climb-short}
 use Rattle.board.specs.Boards.{tablesOf, foundingBoard, KeepsRight, SoundBoard}
 use Rattle.board.specs.Effects.{after}
@@ -139,7 +139,8 @@ module _ {b next : Board} {c : Command} (d : Decided b c 0 next) where
       let passed = first-done (commandRefusals b c) refl (d .numbered) in
       let now = d .done refl in
       let zero : number ≡ 0 = stable (ℕ-discrete number 0) (λ k. passed .0 (λ s. k (first-unique (commandRefusals next r) number 0 (again .numbered)
-      (pass _ _ _ _ (λ n. n (now .fit)) (subst (λ t. First (onTables t r) 0) (sym (now .tables-are)) (back-granted (tablesOf b) w (s .sound) (first-without _ _ _ _ (passed .0) (d .numbered)) free)))))) in
+      (pass _ _ _ _ (λ n. n (now .fit)) (subst (λ t. First (onTables t r) 0) (sym (now .tables-are))
+      (back-granted (tablesOf b) w (s .sound) (first-without _ _ _ _ (passed .0) (d .numbered)) free)))))) in
       let made = again .done zero in (
         zero,
         board-stable last b (λ k. passed .0 (λ s. k (one-board (made .fit) s
