@@ -1,4 +1,4 @@
--- Document 01's table of refusals for a command, row by row, and what a command answers.
+-- Document 01's table of refusals for a command, row by row, with rows 2, 4 and 5 as request 2 has them, and what a command answers.
 use mathlib.Core.Path.{_≡_}
 use mathlib.Core.Bool.{Bool, true, false, _&&_, _||_}
 use mathlib.Core.Logic.{_⊎_, _≢_}
@@ -31,7 +31,7 @@ pub data Malformed (c : Command) : Type 0 where
 
 -- ---- row 3: a role that must exist isn't live
 
--- whether x is in one of the four sets that command 1 names
+-- whether x is among the seniors that command 1 names, by A or by I; and among the juniors
 abbrev pub asSenior : Command → ℕ → Bool
 asSenior c x = bit (c .«a_seniors») x || bit (c .«i_seniors») x
 
@@ -45,6 +45,7 @@ needed c x =
     || ((eqb (c .code) 1 && (asSenior c x || asJunior c x))
     || ((leb 2 (c .code) && eqb x (c .role)) || (leb 3 (c .code) && eqb x (c .junior))))
 
+-- one that must exist and does not
 pub record Missing (t : Tables) (c : Command) : Type 0 where
   pub who : ℕ
   pub is-needed : needed c who ≡ true

@@ -1,4 +1,5 @@
--- The column "Effect" of document 01's table of commands, member by member. What no line names stays as it was.
+-- What each command does, member by member: the column "Effect" of document 01's table, with commands 3 and 4 as request 2 has them. What no
+-- line names stays as it was.
 use mathlib.Core.Bool.{Bool, cond, not, _&&_, _||_}
 use mathlib.Core.List.{List, [], _∷_}
 use Prim.Native.Nat.{ℕ, zero, suc}
@@ -26,7 +27,9 @@ abbrev pub pair : Command → ℕ → ℕ → Bool
 pair c x y = eqb x (c .role) && eqb y (c .junior)
 
 -- Whether one table has the entry of senior x and junior y afterwards, by whether it had it. It is one rule for both tables:
--- `seniors` and `juniors` are the sets that command 1 names for this table, `part` whether the named kind has this table's part.
+-- `seniors` and `juniors` are the sets that command 1 names for this table, `part` whether the named kind has this table's part. By command:
+-- 1, what stood and the new role's edges; 2, what stood but the role's edges; 3, what stood and the part named; 4, what stood but the part
+-- named; 5, the part named and no other.
 unfoldable pub entry : Command → ℕ → ℕ → Bool → Bool → ℕ → ℕ → Bool
 entry c seniors juniors part old x y =
     cond (eqb (c .code) 1) (old || ((eqb y (c .role) && bit seniors x) || (eqb x (c .role) && bit juniors y)))

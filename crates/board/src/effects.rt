@@ -1,5 +1,5 @@
-// What a command does to the tables of a board. Nothing is refused here: a command of any code on any board has the effect that its line of
-// document 01 says, and a role above 63 names nobody. The two tables go the same way.
+// What a command does to the tables of a board. Nothing is refused here: a command of any code on any board has the effect of its code, and
+// a role above 63 names nobody. The two tables go the same way.
 ghost use mathlib.Core.Path.{_≡_};
 ghost use mathlib.Core.Bool.{_||_};
 ghost use lib.Dec.{eqb};

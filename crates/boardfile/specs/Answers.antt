@@ -29,6 +29,7 @@ pub record IsFile (f : List ℕ) (t : Tables) : Type 0 where
 
 -- ---- reading: what has neither fault is the file of a board, and that board may have trouble of its own
 
+-- Rows 7 and 9 are of the tables whose file these bytes are; there are no two such (`one-tables`).
 abbrev pub refusals : List ℕ → List (ℕ × Type 0)
 refusals f =
     (10, BadFrame f)
@@ -102,6 +103,7 @@ StretchOf f file-at role part part-at =
 
 -- ---- writing to a place of a buffer
 
+-- row 12: the place is past the end, or there are too few bytes from it on
 pub data NoRoom (t : Tables) (entry : List ℕ) (at : ℕ) : Type 0 where
   past-end : length entry < at → NoRoom t entry at
   too-few : length entry - at < length (fileOf t) → NoRoom t entry at
@@ -114,9 +116,11 @@ Placed t entry at exit len = (len ≡ length (fileOf t)) × (exit ≡ take at en
 abbrev pub Unplaced : List ℕ → List ℕ → ℕ → Type 0
 Unplaced entry exit len = (len ≡ 0) × (exit ≡ entry)
 
+-- 1, then 12
 abbrev pub writeRefusals : Board → List ℕ → ℕ → List (ℕ × Type 0)
 writeRefusals b entry at = (1, (SoundBoard b → ⊥)) ∷ (12, NoRoom (tablesOf b) entry at) ∷ []
 
+-- done puts the file there, a refusal leaves every byte, and the length is 0
 pub record WriteAnswer (b : Board) (entry : List ℕ) (at : ℕ) (exit : List ℕ) (number len : ℕ) : Type 0 where
   pub numbered : First (writeRefusals b entry at) number
   pub done : number ≡ 0 → Placed (tablesOf b) entry at exit len

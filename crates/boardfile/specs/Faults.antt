@@ -50,7 +50,7 @@ junior f k = byte f (roleCount f + 3 * k + 1)
 unfoldable pub kindByte : List ℕ → ℕ → ℕ
 kindByte f k = byte f (roleCount f + 3 * k + 2)
 
--- its place in the order
+-- its place in the order: by senior, then junior, for roles up to 63; a record with another number is bad whatever its place
 abbrev pub place : List ℕ → ℕ → ℕ
 place f k = senior f k * 64 + junior f k
 

@@ -1,4 +1,4 @@
--- What the parts of the reader find: document 01's fault, or a part of a board.
+-- What the steps of the reader, of the writer and of the stretch promise each other: document 01's fault, or a part of a board, of its file.
 use mathlib.Core.Path.{_≡_}
 use mathlib.Core.Bool.{Bool, true, false}
 use mathlib.Core.Logic.{_≢_, _⊎_}

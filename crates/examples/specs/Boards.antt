@@ -1,4 +1,4 @@
--- The boards of document 01's examples by their tables, and commands as its table of commands names their fields.
+-- The boards of the examples by their tables, and commands as document 01's table of commands names their fields. P, W and L are document 01's.
 use mathlib.Core.List.{_∷_}
 use Prim.Native.Nat.{ℕ}
 use lib.ListN.{replicate}

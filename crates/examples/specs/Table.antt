@@ -171,6 +171,7 @@ table =
     ∷ (on E, gives (removeEdge 0 0 1 4) 2)
     -- an edge goes with its last part
     ∷ (on P, gives (removeEdge 0 0 2 I) 5)
+    ∷ (on P, gives (addEdge 0 0 2 I) 0)
     ∷ (on P then addEdge 0 0 2 I, gives (removeEdge 0 0 2 I) 0)
     ∷ (on P then addEdge 0 0 2 I then removeEdge 0 0 2 I, same P)
     -- the missing part leaves role 5 alone

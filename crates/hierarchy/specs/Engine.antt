@@ -124,6 +124,7 @@ pub record Orderly (t : Tables) (live : ℕ) (down up : List ℕ) : Type 0 where
   pub loopless : LiveLoops t → ⊥
   pub views : AreViews t down up
 
+-- manager has each role's nearest administrator
 pub record Managers (t : Tables) (manager : List ℕ) : Type 0 where
   pub rows : length manager ≡ 64
   pub nearest : (r : ℕ) → NearestIs t r (managerAt manager r)

@@ -33,6 +33,7 @@ InOrder t = (x : ℕ) → Live t x → Settles t x
 abbrev pub Inward : Tables → Type 0
 Inward t = (x y : ℕ) → Live t x → kind t x y ≢ 0 → Live t y
 
+-- some live role reaches itself
 abbrev pub LiveLoops : Tables → Type 0
 LiveLoops t = (x : ℕ) × (Live t x × Reaches t x x)
 

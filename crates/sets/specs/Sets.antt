@@ -23,6 +23,7 @@ s areIn t = (x : ℕ) → x isIn s → x isIn t
 unfoldable pub same? : ℕ → ℕ → Bool
 same? r x = eqb x r && ltb r 64
 
+-- a binary digit
 abbrev pub num : Bool → ℕ
 num true = 1
 num false = 0
@@ -42,6 +43,7 @@ pub record LowestRole (s r : ℕ) : Type 0 where
   pub member : r isIn s
   pub least : (x : ℕ) → x isIn s → r ≤ x
 
+-- s has no role
 pub record NoRole (s : ℕ) : Type 0 where
   pub none : (x : ℕ) → bit s x ≡ false
 
