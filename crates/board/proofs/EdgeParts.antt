@@ -1,4 +1,4 @@
--- An edge by its parts: what the tables say of its kind, and what the edge commands leave of it. Assumes nothing.
+-- What adding to an edge and removing from it leave of it, and taking back what was added. Assumes nothing.
 use mathlib.Core.Path.{_≡_, refl, sym, ap, ap₂, _∙_}
 use mathlib.Core.Bool.{Bool, true, false, not, _&&_, _||_, or-false, and-true, and-false}
 use mathlib.Core.List.{List}
@@ -8,35 +8,14 @@ use lib.Dec.{eqb}
 use borrow.Author.Tests.{eq-eqb}
 use Rattle.sets.specs.Sets.{bit}
 use Rattle.sets.proofs.Bools.{and-both, and-left, and-right}
-use Rattle.hierarchy.specs.Tables.{Tables, Shaped, IsTable, row, kindOf, kind}
-use Rattle.board.specs.Effects.{hasI, hasA, pair, tableAfter, after}
+use Rattle.sets.proofs.Laws.{setOf-fits}
+use Rattle.hierarchy.specs.Tables.{Tables, Shaped, IsTable, row, kindOf, kind, hasI, hasA}
+use Rattle.hierarchy.proofs.Derive.{bit-i, bit-a}
+use Rattle.board.specs.Effects.{pair, tableAfter, after}
 use Rattle.board.specs.Commands.{edgeKind}
 use Rattle.board.specs.EdgeParts.{both, less, NoneStands, TakesBack}
 use Rattle.board.specs.declared.Command.{Command}
-use Rattle.board.proofs.Edits.{table-entry, table-is, named, entry-3, entry-4, living, tables-are}
-
--- ---- the parts of a kind are the entries of its pair
-
-part-i : (p q : Bool) → p ≡ hasI (kindOf p q)
-part-i true true = refl
-part-i true false = refl
-part-i false true = refl
-part-i false false = refl
-
-part-a : (p q : Bool) → q ≡ hasA (kindOf p q)
-part-a true true = refl
-part-a true false = refl
-part-a false true = refl
-part-a false false = refl
-
-module _ (t : Tables) (x y : ℕ) where
-  pub bit-i : bit (row (t .i) x) y ≡ hasI (kind t x y)
-  unfolding kind
-  bit-i = part-i (bit (row (t .i) x) y) (bit (row (t .a) x) y)
-
-  pub bit-a : bit (row (t .a) x) y ≡ hasA (kind t x y)
-  unfolding kind
-  bit-a = part-a (bit (row (t .i) x) y) (bit (row (t .a) x) y)
+use Rattle.board.proofs.Edits.{table-entry, table-is, named, entry-3, entry-4, live-stays, tables-are}
 
 -- ---- what a command leaves of its own edge
 
@@ -92,8 +71,6 @@ module _ {c d : Command} (w : TakesBack c d) where
   pub taken-back : (t : Tables) → Shaped t → NoneStands t c → after (after t c) d ≡ t
   unfolding after
   taken-back t shaped free = sym (tables-are (after t c) d (t .live) (t .i) (t .a) (hasI (c .kind)) (hasA (c .kind))
-      (living d _ (t .live) (shaped .live-fits) (λ k. absurd (omega (arith, w .removes))) (λ k. absurd (omega (arith, w .removes)))
-      (λ x. ap (λ (k : ℕ). bit k x)
-      (living c (t .live) (t .live) (shaped .live-fits) (λ k. absurd (omega (arith, w .adds))) (λ k. absurd (omega (arith, w .adds))) (λ x. refl))))
+      (live-stays t c (shaped .live-fits) (omega (arith, w .adds)) ∙ live-stays (after t c) d (setOf-fits _) (omega (arith, w .removes)))
       (ap hasI (sym (w .kind))) (back-table _ _ _ _ _ (t .i) record { rows = shaped .i-rows; fits = shaped .i-fits } (free .i))
       (ap hasA (sym (w .kind))) (back-table _ _ _ _ _ (t .a) record { rows = shaped .a-rows; fits = shaped .a-fits } (free .a)))

@@ -15,8 +15,8 @@ use Rattle.sets.proofs.Bools.{true-or-false, and-left, and-right, false-no, lt-
 use Rattle.sets.proofs.Digits.{bit-zero}
 use Rattle.sets.proofs.Laws.{same-is, same-out, same-eq, same-self, setOf-fits, bit-setOf, is-setOf, bit-lt}
 use Rattle.sets.proofs.Members.{Taken, taken-part}
-use Rattle.hierarchy.specs.Tables.{Tables, tables, row, IsTable}
-use Rattle.board.specs.Effects.{hasI, hasA, lives, listOf, pair, entry, tableAfter, after}
+use Rattle.hierarchy.specs.Tables.{Tables, tables, row, IsTable, hasI, hasA}
+use Rattle.board.specs.Effects.{lives, listOf, pair, entry, tableAfter, after}
 use Rattle.hierarchy.proofs.Rows.{row-set as by-row}
 use Rattle.board.specs.Rows.{RowSet, Entered, Left}
 use Rattle.board.specs.declared.Command.{Command}
@@ -246,29 +246,22 @@ module _ (c : Command) (s j : ℕ) (p : Bool) (t : List ℕ) where
       ∙ sym (entry-2 c s j p (bit (row t x) y) x y e))
 
   module _ (k : ℕ) (single : (x : ℕ) → bit k x ≡ same? (c .role) x) where
-    paired : (q : Bool) (r : List ℕ) → Entered t k (c .junior) q r → (x y : ℕ) → x < 64 → y < 64 → bit (row r x) y ≡ cond (pair c x y) q (bit (row t x) y)
-    paired q r h x y l m = h .entries x y ∙ rw (single x, is-role (c .role) x l, is-role (c .junior) y m)
+    -- the table whose named pair became q, where that is what the command's line says of each entry
+    paired : (q : Bool) → ((x y : ℕ) → cond (pair c x y) q (bit (row t x) y) ≡ entry c s j p (bit (row t x) y) x y)
+        → (r : List ℕ) → Entered t k (c .junior) q r → r ≡ tableAfter c s j p t
+    paired q is r h = table-is c s j p t r (h .whole)
+        (λ x y l m. h .entries x y ∙ rw (single x, is-role (c .role) x l, is-role (c .junior) y m) (is x y))
 
     pub links : c .code ≡ 3 → p ≡ true → (r : List ℕ) → Entered t k (c .junior) true r → r ≡ tableAfter c s j p t
-    links e d r h = table-is c s j p t r (h .whole)
-        (λ x y l m.
-        let o = bit (row t x) y in
-        paired true r h x y l m
-        ∙ sym (put-in o (pair c x y) true refl)
-        ∙ (rw (d, and-true (pair c x y)))
-        ∙ sym (entry-3 c s j p o x y e))
+    links e d = paired true (λ x y. let o = bit (row t x) y in
+        sym (put-in o (pair c x y) true refl) ∙ (rw (d, and-true (pair c x y))) ∙ sym (entry-3 c s j p o x y e))
 
     pub unlinks : c .code ≡ 4 → p ≡ true → (r : List ℕ) → Entered t k (c .junior) false r → r ≡ tableAfter c s j p t
-    unlinks e d r h = table-is c s j p t r (h .whole)
-        (λ x y l m.
-        let o = bit (row t x) y in
-        paired false r h x y l m
-        ∙ sym (put-out o (pair c x y) false refl)
-        ∙ (rw (d, and-true (pair c x y)))
-        ∙ sym (entry-4 c s j p o x y e))
+    unlinks e d = paired false (λ x y. let o = bit (row t x) y in
+        sym (put-out o (pair c x y) false refl) ∙ (rw (d, and-true (pair c x y))) ∙ sym (entry-4 c s j p o x y e))
 
     pub changes : c .code ≡ 5 → (r : List ℕ) → Entered t k (c .junior) p r → r ≡ tableAfter c s j p t
-    changes e r h = table-is c s j p t r (h .whole) (λ x y l m. paired p r h x y l m ∙ sym (entry-5 c s j p (bit (row t x) y) x y e))
+    changes e = paired p (λ x y. sym (entry-5 c s j p (bit (row t x) y) x y e))
 
   -- a change to the part that the edge has changes nothing
   pub idles : c .code ≡ 5 → bit (row t (c .role)) (c .junior) ≡ p → IsTable t → t ≡ tableAfter c s j p t
@@ -304,6 +297,11 @@ module _ (c : Command) (s r : ℕ) (fits : r < 2 ^ 64) where
   pub living : c .code ≢ 1 → c .code ≢ 2 → ((x : ℕ) → bit r x ≡ bit s x) → r ≡ setOf (λ x. lives c (bit s x) x)
   unfolding lives
   living e1 e2 h = is-setOf r _ fits (λ x l. h x ∙ rw (ne-eqb (c .code) 1 e1, ne-eqb (c .code) 2 e2))
+
+-- an edge command leaves them
+pub live-stays : (t : Tables) (c : Command) → t .live < 2 ^ 64 → 3 ≤ c .code → t .live ≡ after t c .live
+unfolding after
+live-stays t c fits l = living c (t .live) (t .live) fits (λ k. absurd (omega arith)) (λ k. absurd (omega arith)) (λ x. refl)
 
 pub tables-are : (b : Tables) (c : Command) (live : ℕ) (i a : List ℕ) (p q : Bool) → live ≡ setOf (λ x. lives c (bit (b .live) x) x)
     → p ≡ hasI (c .kind) → i ≡ tableAfter c (c .«i_seniors») (c .«i_juniors») p (b .i)

@@ -10,19 +10,18 @@ use borrow.Author.Tests.{eqb-true, eqb-false, eq-eqb, ne-eqb, le-leb, not-true}
 use Rattle.sets.specs.Sets.{bit, _isIn_}
 use Rattle.sets.proofs.Bools.{true-or-false, or-cases, or-left, or-right, and-left, and-right, false-no, lt-or-ge}
 use Rattle.sets.proofs.Laws.{setOf-fits, bit-setOf}
-use Rattle.hierarchy.specs.Tables.{Tables, tables, Live, Shaped, IsTable, row}
+use Rattle.hierarchy.specs.Tables.{Tables, tables, Live, Shaped, IsTable, row, hasI, hasA}
 use Rattle.hierarchy.specs.Words.{Scope, Joined, Sound}
 use Rattle.hierarchy.specs.First.{First}
 use Rattle.hierarchy.proofs.Admin.{admin-reaches}
 use Rattle.hierarchy.proofs.Decide.{managed-dec}
-use Rattle.hierarchy.proofs.Derive.{edge-entry, i-entry, a-entry}
+use Rattle.hierarchy.proofs.Derive.{bit-i, bit-a, edge-entry, i-entry, a-entry}
 use Rattle.hierarchy.proofs.Theorems.{no-senior}
-use Rattle.board.specs.Effects.{hasI, hasA, lives, pair, entry, after}
+use Rattle.board.specs.Effects.{lives, pair, entry, after}
 use Rattle.board.specs.Commands.{asSenior, asJunior, needed, strictly, Malformed, Malformed.no-code, Missing, InScope, edgeKind, onTables}
 use Rattle.board.specs.declared.Command.{Command}
 use Rattle.board.proofs.Rules.{stable, first-done}
-use Rattle.board.proofs.Edits.{table-length, table-fits, in-table, entry-1, entry-2, entry-other, idles, living, tables-are}
-use Rattle.board.proofs.EdgeParts.{bit-i, bit-a}
+use Rattle.board.proofs.Edits.{table-length, table-fits, in-table, entry-1, entry-2, entry-other, idles, live-stays, tables-are}
 
 -- ---- the shape, by construction
 
@@ -182,8 +181,9 @@ sound-after b c sound f =
 
 -- It leaves the very tables.
 pub idle-change : (b : Tables) (c : Command) → Shaped b → c .code ≡ 5 → edgeKind b c ≡ c .kind → after b c ≡ b
+unfolding after
 idle-change b c shaped e same =
     sym (tables-are b c (b .live) (b .i) (b .a) (hasI (c .kind)) (hasA (c .kind))
-    (living c (b .live) (b .live) (shaped .live-fits) (λ k. absurd (omega arith)) (λ k. absurd (omega arith)) (λ x. refl))
+    (live-stays b c (shaped .live-fits) (omega arith))
     refl (idles c _ _ _ (b .i) e (bit-i b (c .role) (c .junior) ∙ ap hasI same) record { rows = shaped .i-rows; fits = shaped .i-fits })
     refl (idles c _ _ _ (b .a) e (bit-a b (c .role) (c .junior) ∙ ap hasA same) record { rows = shaped .a-rows; fits = shaped .a-fits }))

@@ -9,19 +9,19 @@ use lib.Dec.{eqb}
 use borrow.Author.Tests.{eqb-true, eq-eqb}
 use Rattle.sets.specs.Sets.{bit, _isIn_}
 use Rattle.sets.proofs.Bools.{or-cases, or-left, or-right, and-left, false-no}
-use Rattle.hierarchy.specs.Tables.{Tables, Live, row, kind}
+use Rattle.hierarchy.specs.Tables.{Tables, Live, row, kind, hasI, hasA}
 use Rattle.hierarchy.specs.Words.{Derives, Chain, Chain.stop, Chain.step, Scope, Sound}
 use Rattle.hierarchy.specs.First.{First}
 use Rattle.hierarchy.proofs.Decide.{edge-lt}
 use Rattle.hierarchy.proofs.Derive.{derives↔descends, i-entry, a-entry}
 use Rattle.hierarchy.proofs.FirstLaws.{pass, none}
-use Rattle.board.specs.Effects.{hasI, hasA, pair, entry, tableAfter, after}
+use Rattle.board.specs.Effects.{pair, entry, tableAfter, after}
 use Rattle.board.specs.Commands.{needed, scoped, strictly, Malformed, Missing, Standing, Lacking, InScope, afterwards, onTables}
 use Rattle.board.specs.Commands.{Malformed.no-code, Malformed.no-actor, Malformed.no-role, Malformed.no-junior, Malformed.no-kind, Standing.role, Standing.edge, Lacking.no-part, Lacking.no-edge}
 use Rattle.board.specs.EdgeParts.{NoneStands, TakesBack}
 use Rattle.board.specs.declared.Command.{Command}
 use Rattle.board.proofs.Rules.{Passed, first-done}
-use Rattle.board.proofs.Edits.{table-entry, in-table, entry-3, living}
+use Rattle.board.proofs.Edits.{table-entry, in-table, entry-3, live-stays}
 use Rattle.board.proofs.EdgeParts.{added, taken-back}
 use Rattle.board.proofs.Trying.{role-lt, junior-lt}
 
@@ -71,9 +71,7 @@ module _ {c d : Command} (t : Tables) (w : TakesBack c d) (sound : Sound t) (f :
 
   -- the command c leaves the live roles,
   same-live : (x : ℕ) → bit (t .live) x ≡ bit (after t c .live) x
-  unfolding after
-  same-live x = ap (λ (k : ℕ). bit k x)
-      (living c (t .live) (t .live) (sound .shaped .live-fits) (λ k. absurd (omega (arith, w .adds))) (λ k. absurd (omega (arith, w .adds))) (λ x. refl))
+  same-live x = ap (λ (k : ℕ). bit k x) (live-stays t c (sound .shaped .live-fits) (omega (arith, w .adds)))
 
   -- a table grows in the row of the senior alone,
   grows : (s j : ℕ) (p : Bool) (old : List ℕ) → ((x y : ℕ) → y isIn row old x → kind t x y ≢ 0) → Grows (c .role) old (tableAfter c s j p old)

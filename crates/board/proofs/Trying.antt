@@ -1,7 +1,7 @@
 -- The rows of the table of refusals, each from what the code tests. Assumes nothing.
 use mathlib.Core.Path.{_≡_, refl, sym, ap, _∙_, subst}
 use mathlib.Core.Bool.{Bool, true, false, not, _&&_, _||_, or-false, or-comm}
-use mathlib.Core.Logic.{_⊎_, inl, inr, ⊎-elim, _≢_, _↔_, dite, Iff·trans, Iff·rfl}
+use mathlib.Core.Logic.{_⊎_, inl, inr, ⊎-elim, _≢_, _↔_, Iff·trans, Iff·rfl}
 use mathlib.Core.List.{List, _∷_, _++_}
 use Prim.Native.Nat.{ℕ, _^_, _≤_, _<_}
 use native.Mathlib.Decide.{ℕ-discrete}
@@ -13,7 +13,7 @@ use Rattle.sets.specs.Sets.{bit, _isIn_, _areIn_, same?}
 use Rattle.sets.proofs.Bools.{true-or-false, or-cases, or-left, or-right, and-left, and-right, and-both, false-no, lt-or-ge, not-so}
 use Rattle.sets.proofs.Digits.{bit-zero}
 use Rattle.sets.proofs.Laws.{same-is, same-eq, bit-lowest}
-use Rattle.hierarchy.specs.Tables.{Tables, row}
+use Rattle.hierarchy.specs.Tables.{Tables, row, hasI, hasA}
 use Rattle.hierarchy.specs.First.{First}
 use Rattle.hierarchy.specs.Views.{AreViews}
 use Rattle.hierarchy.proofs.Checks.{and-is, or-is, if-is, not-is, eq-is}
@@ -23,7 +23,7 @@ use Rattle.hierarchy.proofs.ViewLaws.{admin-by}
 use Rattle.board.specs.Boards.{tablesOf, KeepsRight, SoundBoard}
 use Rattle.board.specs.Commands.{Malformed, asSenior, asJunior, needed, Missing, edgeKind, PartsStand, Standing, Lacking, scoped, strictly, InScope, Outside, before, DecidedBy, Decided}
 use Rattle.board.specs.Commands.{Malformed.no-code, Malformed.no-actor, Malformed.no-role, Malformed.no-junior, Malformed.no-kind, Standing.role, Standing.edge, Lacking.no-part, Lacking.no-edge}
-use Rattle.board.specs.Effects.{hasI, hasA, after}
+use Rattle.board.specs.Effects.{after}
 use Rattle.board.specs.Looks.{OutsideBy, late}
 use Rattle.board.specs.declared.Board.{Board}
 use Rattle.board.specs.declared.Command.{Command}

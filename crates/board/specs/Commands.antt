@@ -6,11 +6,11 @@ use mathlib.Core.List.{List, [], _∷_, _++_}
 use Prim.Native.Nat.{ℕ, _≤_, _<_}
 use lib.Dec.{eqb, leb}
 use Rattle.sets.specs.Sets.{bit, _isIn_}
-use Rattle.hierarchy.specs.Tables.{Tables, row, kind}
+use Rattle.hierarchy.specs.Tables.{Tables, row, kind, hasI, hasA}
 use Rattle.hierarchy.specs.Words.{Scope, Administrator, Loops, Managed}
 use Rattle.hierarchy.specs.First.{First}
 use Rattle.board.specs.Boards.{tablesOf, SoundBoard}
-use Rattle.board.specs.Effects.{hasI, hasA, after}
+use Rattle.board.specs.Effects.{after}
 use Rattle.board.specs.declared.Board.{Board}
 use Rattle.board.specs.declared.Command.{Command}
 

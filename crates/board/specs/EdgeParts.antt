@@ -3,8 +3,7 @@ use mathlib.Core.Path.{_≡_}
 use mathlib.Core.Bool.{true, false, not, _&&_, _||_}
 use Prim.Native.Nat.{ℕ}
 use Rattle.sets.specs.Sets.{bit}
-use Rattle.hierarchy.specs.Tables.{Tables, row, kindOf}
-use Rattle.board.specs.Effects.{hasI, hasA}
+use Rattle.hierarchy.specs.Tables.{Tables, row, kindOf, hasI, hasA}
 use Rattle.board.specs.declared.Command.{Command}
 
 -- the kind with the parts of h and those of k

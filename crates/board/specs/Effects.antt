@@ -5,15 +5,8 @@ use mathlib.Core.List.{List, [], _∷_}
 use Prim.Native.Nat.{ℕ, zero, suc}
 use lib.Dec.{eqb}
 use Rattle.sets.specs.Sets.{bit, setOf}
-use Rattle.hierarchy.specs.Tables.{Tables, tables, row}
+use Rattle.hierarchy.specs.Tables.{Tables, tables, row, hasI, hasA}
 use Rattle.board.specs.declared.Command.{Command}
-
--- which parts a kind has: 1 is I, 2 is A, 3 is both
-abbrev pub hasI : ℕ → Bool
-hasI k = eqb k 1 || eqb k 3
-
-abbrev pub hasA : ℕ → Bool
-hasA k = eqb k 2 || eqb k 3
 
 -- whether x lives afterwards, by whether it lived: command 1 adds its role, command 2 removes it
 unfoldable pub lives : Command → Bool → ℕ → Bool

@@ -15,9 +15,8 @@ use Rattle.sets.specs.Sets.{bit, _isIn_, same?}
 use Rattle.sets.proofs.Bools.{not-so, false-no}
 use Rattle.sets.proofs.Digits.{bit-zero}
 use Rattle.sets.proofs.Laws.{same-eq, same-self, bit-lt}
-use Rattle.hierarchy.specs.Tables.{tables, row, kindOf, kind, IsTable}
-use Rattle.board.specs.Effects.{hasI, hasA}
-use Rattle.board.proofs.EdgeParts.{bit-i, bit-a}
+use Rattle.hierarchy.specs.Tables.{tables, row, kindOf, kind, IsTable, hasI, hasA}
+use Rattle.hierarchy.proofs.Derive.{bit-i, bit-a}
 use Rattle.boardfile.specs.Files.{from, edgeBytes, records, kindAt}
 use Rattle.boardfile.specs.Faults.{byte, senior, junior, kindByte, place, Listed, BadRecord, BadRecord.no-senior, BadRecord.no-junior, BadRecord.itself, BadRecord.no-kind, BadRecord.edge-order}
 use Rattle.boardfile.specs.Parts.{GoodFrame, GoodRoles, Spelt, Right, Wrong, Wrong.dead-senior, Wrong.dead-junior, Wrong.same, Wrong.unknown, Fine, GoodEdges}

@@ -1,6 +1,6 @@
 -- Two boards with the same file have the same tables, and where they are sound, they are one board. Assumes nothing.
-use mathlib.Core.Path.{_≡_, refl, sym, ap, ap₂, _∙_, subst}
-use mathlib.Core.Bool.{Bool, true, false}
+use mathlib.Core.Path.{_≡_, sym, ap, ap₂, _∙_, subst}
+use mathlib.Core.Bool.{Bool, false}
 use mathlib.Core.Logic.{⊎-elim, _↔_}
 use mathlib.Core.List.{List}
 use Prim.Native.Nat.{ℕ, _+_, _*_, _/_, _%_, _^_, _<_, zero-le}
@@ -12,11 +12,10 @@ use borrow.Author.Tests.{eqb-true, not-false}
 use Rattle.sets.specs.Sets.{bit}
 use Rattle.sets.proofs.Bools.{true-or-false}
 use Rattle.sets.proofs.Laws.{ext}
-use Rattle.hierarchy.specs.Tables.{Tables, Shaped, row, kind}
+use Rattle.hierarchy.specs.Tables.{Tables, Shaped, row, kind, hasI, hasA}
+use Rattle.hierarchy.proofs.Derive.{bit-i, bit-a}
 use Rattle.board.specs.Boards.{tablesOf, SoundBoard}
-use Rattle.board.specs.Effects.{hasI, hasA}
 use Rattle.board.specs.declared.Board.{Board}
-use Rattle.board.proofs.EdgeParts.{bit-i, bit-a}
 use Rattle.board.proofs.Settled.{one-board as one-sound-board}
 use Rattle.boardfile.specs.Files.{from, records, edge?, edgeBytes, bytesOf, kindAt, fileOf}
 use Rattle.boardfile.specs.Faults.{edgeDistance, roleCount}

@@ -17,14 +17,15 @@ use Rattle.hierarchy.proofs.FirstLaws.{pass, hit, none}
 use Rattle.hierarchy.proofs.Checks.{all-is, any-is, and-is, or-is, if-is, not-is, eq-is, lt-is}
 use Rattle.hierarchy.proofs.Decide.{scope-is, admin-is, loops-is, managed-is, sound-is, sound-dec}
 use Rattle.board.specs.Boards.{tablesOf, KeepsRight, SoundBoard}
-use Rattle.board.specs.Effects.{hasI, hasA, after}
-use Rattle.board.specs.Commands.{Malformed, Missing, PartsStand, Standing, Lacking, InScope, Outside, asSenior, asJunior, needed, scoped, strictly, edgeKind, afterwards, onTables, refusals}
-use Rattle.board.specs.Commands.{Malformed.no-code, Malformed.no-actor, Malformed.no-role, Malformed.no-junior, Malformed.no-kind, Standing.role, Standing.edge, Lacking.no-part, Lacking.no-edge}
+use Rattle.board.specs.Effects.{after}
+use Rattle.board.specs.Commands.{Malformed, Missing, PartsStand, Standing, Lacking, InScope, Outside, asSenior, asJunior, needed, scoped, strictly, afterwards, onTables, refusals}
+use Rattle.board.specs.Commands.{Malformed.no-code, Malformed.no-actor, Malformed.no-role, Malformed.no-junior, Malformed.no-kind}
 use Rattle.board.proofs.Rules.{stable, first-alike}
 use Rattle.board.proofs.SoundAfter.{shaped-after}
+use Rattle.board.proofs.Trying.{parts-row, edge-row, standing-row, lacking-row}
 use Rattle.board.specs.declared.Board.{Board}
 use Rattle.board.specs.declared.Command.{Command}
-use Rattle.examples.specs.Answer.{malformed?, missing?, partsStand?, standing?, lacking?, inScope?, outside?, first?, afterwards?, answer?, Fits, fits?}
+use Rattle.examples.specs.Answer.{malformed?, missing?, partsStand?, linked?, standing?, lacking?, inScope?, outside?, first?, afterwards?, answer?, Fits, fits?}
 use Rattle.examples.proofs.Leaving.{left-is}
 
 is : (p : Bool) → (p ≡ true) ↔ (p ≡ true)
@@ -65,26 +66,15 @@ malformed-is c =
 
 parts-is : (t : Tables) (c : Command) → (partsStand? t c ≡ true) ↔ PartsStand t c
 unfolding partsStand?
-parts-is t c =
-    let i = and-is (if-is (is (hasI (c .kind))) (is _)) (λ _. if-is (is (hasA (c .kind))) (is _)) in
-    (λ e. let h = i .0 e in record { i = h .0; a = h .1 }, λ s. i .1 (s .i, s .a))
+parts-is t c = parts-row t c refl
 
 standing-is : (t : Tables) (c : Command) → (standing? t c ≡ true) ↔ Standing t c
 unfolding standing?
-standing-is t c =
-    let old = and-is (eq-is (c .code) 1) (λ _. is (bit (t .live) (c .role))) in
-    let i = or-is old (and-is (eq-is (c .code) 3) (λ _. parts-is t c)) in (
-      λ e. ⊎-elim (λ h. role (h .0) (h .1)) (λ h. edge (h .0) (h .1)) (i .0 e),
-      λ s. i .1 (elim s [ role e h ↦ inl (e, h) | edge e h ↦ inr (e, h) ]),
-    )
+standing-is t c = standing-row t c (parts-is t c) refl
 
 lacking-is : (t : Tables) (c : Command) → (lacking? t c ≡ true) ↔ Lacking t c
-unfolding lacking?
-lacking-is t c =
-    let i = or-is (and-is (eq-is (c .code) 4) (λ _. not-is (parts-is t c))) (and-is (eq-is (c .code) 5) (λ _. eq-is (edgeKind t c) 0)) in (
-      λ e. ⊎-elim (λ h. no-part (h .0) (h .1)) (λ h. no-edge (h .0) (h .1)) (i .0 e),
-      λ n. i .1 (elim n [ no-part e h ↦ inl (e, h) | no-edge e h ↦ inr (e, h) ]),
-    )
+unfolding lacking? linked?
+lacking-is t c = lacking-row t c (parts-is t c) (edge-row t c refl) refl
 
 outside-is : (t : Tables) (c : Command) → Shaped t → (outside? t c ≡ true) ↔ Outside t c
 unfolding outside?

@@ -9,8 +9,8 @@ use borrow.Author.Tests.{eqb-true}
 use Rattle.sets.specs.Sets.{bit, setOf}
 use Rattle.sets.proofs.Bools.{cond-elim}
 use Rattle.sets.proofs.Laws.{is-setOf}
-use Rattle.hierarchy.specs.Tables.{Tables, row, Shaped}
-use Rattle.board.specs.Effects.{hasI, hasA, lives, entry, listOf, tableAfter, after}
+use Rattle.hierarchy.specs.Tables.{Tables, row, Shaped, hasI, hasA}
+use Rattle.board.specs.Effects.{lives, entry, listOf, tableAfter, after}
 use Rattle.board.specs.declared.Command.{Command}
 use Rattle.examples.specs.Answer.{touched?, tableLeft, left}
 

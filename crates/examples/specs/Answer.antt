@@ -5,10 +5,10 @@ use mathlib.Core.List.{List, [], _∷_, _++_}
 use Prim.Native.Nat.{ℕ, _^_, _<_}
 use lib.Dec.{eqb, ltb, leb}
 use Rattle.sets.specs.Sets.{bit, setOf}
-use Rattle.hierarchy.specs.Tables.{Tables, row}
+use Rattle.hierarchy.specs.Tables.{Tables, row, hasI, hasA}
 use Rattle.hierarchy.specs.Compute.{all, any, scope?, admin?, loops?, managed?, sound?}
-use Rattle.board.specs.Effects.{hasI, hasA, lives, entry, listOf}
-use Rattle.board.specs.Commands.{needed, scoped, strictly, edgeKind}
+use Rattle.board.specs.Effects.{lives, entry, listOf}
+use Rattle.board.specs.Commands.{needed, scoped, strictly}
 use Rattle.board.specs.declared.Command.{Command}
 
 -- ---- the tables afterwards
@@ -47,11 +47,14 @@ unfoldable pub partsStand? : Tables → Command → Bool
 partsStand? t c =
     (not (hasI (c .kind)) || bit (row (t .i) (c .role)) (c .junior)) && (not (hasA (c .kind)) || bit (row (t .a) (c .role)) (c .junior))
 
+unfoldable pub linked? : Tables → Command → Bool
+linked? t c = bit (row (t .i) (c .role)) (c .junior) || bit (row (t .a) (c .role)) (c .junior)
+
 unfoldable pub standing? : Tables → Command → Bool
 standing? t c = (eqb (c .code) 1 && bit (t .live) (c .role)) || (eqb (c .code) 3 && partsStand? t c)
 
 unfoldable pub lacking? : Tables → Command → Bool
-lacking? t c = (eqb (c .code) 4 && not (partsStand? t c)) || (eqb (c .code) 5 && eqb (edgeKind t c) 0)
+lacking? t c = (eqb (c .code) 4 && not (partsStand? t c)) || (eqb (c .code) 5 && not (linked? t c))
 
 unfoldable pub inScope? : Tables → Command → Bool
 inScope? t c =

@@ -149,12 +149,22 @@ fn actor(name: &[u8], a: u32) {
     number(a);
 }
 
-fn edge(senior: u32, junior: u32, kind: u32) {
-    number(senior);
+// Adds an edge, removes one or changes its kind, as the command's code says.
+pub(crate) fn on_edge(name: &[u8], b: Board, c: Command) -> Board {
+    actor(name, c.actor);
+    if c.code == 3 {
+        text(b" adds ");
+    } else if c.code == 4 {
+        text(b" removes ");
+    } else {
+        text(b" changes ");
+    }
+    number(c.role);
     text(b" to ");
-    number(junior);
+    number(c.junior);
     text(b", kind ");
-    number(kind);
+    number(c.kind);
+    run(b, c)
 }
 
 pub(crate) fn add_role(
@@ -180,48 +190,6 @@ pub(crate) fn remove_role(name: &[u8], b: Board, a: u32, role: u32) -> Board {
     text(b" removes role ");
     number(role);
     run(b, boards::remove_role(a, role))
-}
-
-pub(crate) fn add_edge(
-    name: &[u8],
-    b: Board,
-    a: u32,
-    senior: u32,
-    junior: u32,
-    kind: u32,
-) -> Board {
-    actor(name, a);
-    text(b" adds ");
-    edge(senior, junior, kind);
-    run(b, boards::add_edge(a, senior, junior, kind))
-}
-
-pub(crate) fn remove_edge(
-    name: &[u8],
-    b: Board,
-    a: u32,
-    senior: u32,
-    junior: u32,
-    kind: u32,
-) -> Board {
-    actor(name, a);
-    text(b" removes ");
-    edge(senior, junior, kind);
-    run(b, boards::remove_edge(a, senior, junior, kind))
-}
-
-pub(crate) fn change_edge(
-    name: &[u8],
-    b: Board,
-    a: u32,
-    senior: u32,
-    junior: u32,
-    kind: u32,
-) -> Board {
-    actor(name, a);
-    text(b" changes ");
-    edge(senior, junior, kind);
-    run(b, boards::change_edge(a, senior, junior, kind))
 }
 
 // The kind of the edge from x to y, by the two tables; 0 where there is none.

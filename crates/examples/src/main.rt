@@ -1,8 +1,11 @@
 // Runs every example of document 01, and those of the requests, through the board's own functions and writes a line for each: what was asked, then what came
 // back. `stdout` has the same lines, worked out by hand from the documents.
+use boards::add_edge;
+use boards::change_edge;
 use boards::e;
 use boards::l;
 use boards::p;
+use boards::remove_edge;
 use boards::w;
 
 mod boards;
@@ -25,8 +28,8 @@ fn questions_on_p() {
 // P: an edge changed, a role added.
 fn changes_on_p() {
     let b = p();
-    lines::change_edge(b"P", b, 0, 1, 3, 1);
-    let opened = lines::change_edge(b"P", b, 1, 1, 3, 1);
+    lines::on_edge(b"P", b, change_edge(0, 1, 3, 1));
+    let opened = lines::on_edge(b"P", b, change_edge(1, 1, 3, 1));
     lines::derives(b"P with 1 I 3", opened, 0, 3);
     lines::add_role(b"P", b, 0, 4, 0b10, 0);
     lines::add_role(b"P", b, 0, 4, 0, 0b10);
@@ -46,16 +49,16 @@ fn removals_on_p() {
 // P and L: loops.
 fn loops_on_p_and_l() {
     let b = p();
-    lines::add_edge(b"P", b, 0, 3, 0, 1);
+    lines::on_edge(b"P", b, add_edge(0, 3, 0, 1));
     let mut i = b.i;
     i[3] = 0b1;
     let a = b.a;
     lines::trouble(b"P with 3 I 0", b.live, i, a);
-    lines::add_edge(b"P", b, 0, 2, 1, 1);
-    lines::add_edge(b"P", b, 0, 1, 1, 1);
+    lines::on_edge(b"P", b, add_edge(0, 2, 1, 1));
+    lines::on_edge(b"P", b, add_edge(0, 1, 1, 1));
     let d = l();
     lines::sound(b"L", d);
-    lines::add_edge(b"L", d, 0, 3, 1, 1);
+    lines::on_edge(b"L", d, add_edge(0, 3, 1, 1));
     lines::derives(b"L", d, 1, 3);
 }
 
@@ -63,16 +66,16 @@ fn loops_on_p_and_l() {
 fn edges_on_w() {
     let b = w();
     lines::sound(b"W", b);
-    lines::add_edge(b"W", b, 0, 2, 3, 2);
+    lines::on_edge(b"W", b, add_edge(0, 2, 3, 2));
     let i = b.i;
     let mut a = b.a;
     a[2] = 0b1000;
     lines::trouble(b"W with 2 A 3", b.live, i, a);
     lines::manager(b"W", b, 3);
-    let more = lines::add_edge(b"W", b, 0, 2, 3, 1);
+    let more = lines::on_edge(b"W", b, add_edge(0, 2, 3, 1));
     lines::manager(b"W with 2 I 3", more, 3);
-    lines::change_edge(b"W with 2 I 3", more, 0, 2, 3, 2);
-    lines::add_edge(b"W with 2 I 3", more, 0, 2, 3, 2);
+    lines::on_edge(b"W with 2 I 3", more, change_edge(0, 2, 3, 2));
+    lines::on_edge(b"W with 2 I 3", more, add_edge(0, 2, 3, 2));
 }
 
 // Role 63 is in range and 64 is not, in each field that names a role; and 257 is not role 1.
@@ -83,8 +86,8 @@ fn range_of_roles() {
     lines::remove_role(b"P", b, 63, 1);
     lines::remove_role(b"P", b, 64, 1);
     lines::remove_role(b"P", b, 0, 257);
-    lines::add_edge(b"P", b, 0, 0, 63, 1);
-    lines::add_edge(b"P", b, 0, 0, 64, 1);
+    lines::on_edge(b"P", b, add_edge(0, 0, 63, 1));
+    lines::on_edge(b"P", b, add_edge(0, 0, 64, 1));
     lines::derives(b"P", b, 0, 63);
     lines::derives(b"P", b, 0, 64);
     lines::derives(b"P", b, 0, 257);
@@ -93,34 +96,34 @@ fn range_of_roles() {
 // Kinds are 1 to 3.
 fn range_of_kinds() {
     let b = p();
-    lines::add_edge(b"P", b, 0, 0, 2, 0);
-    lines::add_edge(b"P", b, 0, 0, 2, 1);
-    lines::add_edge(b"P", b, 0, 0, 2, 3);
-    lines::add_edge(b"P", b, 0, 0, 2, 4);
+    lines::on_edge(b"P", b, add_edge(0, 0, 2, 0));
+    lines::on_edge(b"P", b, add_edge(0, 0, 2, 1));
+    lines::on_edge(b"P", b, add_edge(0, 0, 2, 3));
+    lines::on_edge(b"P", b, add_edge(0, 0, 2, 4));
 }
 
 // Request 2: an edge by its parts.
 fn parts_of_an_edge() {
     let b = e();
-    let both = lines::add_edge(b"0 I 1", b, 0, 0, 1, 2);
+    let both = lines::on_edge(b"0 I 1", b, add_edge(0, 0, 1, 2));
     lines::kind(b"0 I 1 with A", both, 0, 1);
-    let by_a = lines::remove_edge(b"0 IA 1", both, 0, 0, 1, 1);
+    let by_a = lines::on_edge(b"0 IA 1", both, remove_edge(0, 0, 1, 1));
     lines::kind(b"0 IA 1 without I", by_a, 0, 1);
-    lines::remove_edge(b"0 A 1", by_a, 0, 0, 1, 3);
-    lines::add_edge(b"0 A 1", by_a, 0, 0, 1, 2);
-    let again = lines::add_edge(b"0 A 1", by_a, 0, 0, 1, 3);
+    lines::on_edge(b"0 A 1", by_a, remove_edge(0, 0, 1, 3));
+    lines::on_edge(b"0 A 1", by_a, add_edge(0, 0, 1, 2));
+    let again = lines::on_edge(b"0 A 1", by_a, add_edge(0, 0, 1, 3));
     lines::kind(b"0 A 1 with IA", again, 0, 1);
-    lines::remove_edge(b"0 A 1", by_a, 0, 0, 1, 2);
-    lines::remove_edge(b"0 I 1", b, 0, 0, 1, 0);
-    lines::remove_edge(b"0 I 1", b, 0, 0, 1, 4);
+    lines::on_edge(b"0 A 1", by_a, remove_edge(0, 0, 1, 2));
+    lines::on_edge(b"0 I 1", b, remove_edge(0, 0, 1, 0));
+    lines::on_edge(b"0 I 1", b, remove_edge(0, 0, 1, 4));
 }
 
 // Request 2: an edge goes with its last part.
 fn last_part() {
     let b = p();
-    lines::remove_edge(b"P", b, 0, 0, 2, 1);
-    let more = lines::add_edge(b"P", b, 0, 0, 2, 1);
-    let less = lines::remove_edge(b"P with 0 I 2", more, 0, 0, 2, 1);
+    lines::on_edge(b"P", b, remove_edge(0, 0, 2, 1));
+    let more = lines::on_edge(b"P", b, add_edge(0, 0, 2, 1));
+    let less = lines::on_edge(b"P with 0 I 2", more, remove_edge(0, 0, 2, 1));
     lines::same(b"P with 0 I 2, and that removed again, is P", less, b);
 }
 

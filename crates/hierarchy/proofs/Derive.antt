@@ -9,7 +9,7 @@ use lib.Dec.{eqb, ltb, lit<}
 use borrow.Author.Tests.{ltb-true, ne-eqb, eqb-false, not-true}
 use Rattle.sets.specs.Sets.{bit, _isIn_}
 use Rattle.sets.proofs.Bools.{or-cases, or-left, and-left, and-right, and-both}
-use Rattle.hierarchy.specs.Tables.{Tables, row, Live, kindOf, kind, joins, join}
+use Rattle.hierarchy.specs.Tables.{Tables, row, Live, kindOf, kind, joins, join, hasI, hasA}
 use Rattle.hierarchy.specs.Words.{Way, Derives, Chain, Splits, Joined}
 use Rattle.hierarchy.specs.Words.{Way.edge, Way.then, Chain.stop, Chain.step}
 use Rattle.hierarchy.specs.Compute.{all}
@@ -26,10 +26,10 @@ pub record Descends (t : Tables) (x y : ℕ) : Type 0 where
 -- ---- what a kind says of an edge, or of a path that joins to it: it can go by I alone; by A alone; by A and then by I
 
 abbrev by-i : ℕ → Bool
-by-i k = eqb k 1 || eqb k 3
+by-i = hasI
 
 abbrev by-a : ℕ → Bool
-by-a k = eqb k 2 || eqb k 3
+by-a = hasA
 
 abbrev by-ai : ℕ → Bool
 by-ai k = not (eqb k 0)
@@ -54,6 +54,14 @@ pair-of true true = record { small = lit< tt; i = refl; a = refl; some = (λ _. 
 pair : (t : Tables) (x y : ℕ) → Pair (bit (row (t .i) x) y) (bit (row (t .a) x) y) (kind t x y)
 unfolding kind
 pair t x y = pair-of (bit (row (t .i) x) y) (bit (row (t .a) x) y)
+
+-- the parts of its kind are these entries
+module _ (t : Tables) (x y : ℕ) where
+  pub bit-i : bit (row (t .i) x) y ≡ hasI (kind t x y)
+  bit-i = sym (pair t x y .i)
+
+  pub bit-a : bit (row (t .a) x) y ≡ hasA (kind t x y)
+  bit-a = sym (pair t x y .a)
 
 -- the kind of a path, by its first edge and the rest
 record Joint (j k n : ℕ) : Type 0 where

@@ -1,8 +1,9 @@
 -- Document 01, part "Roles, edges, paths": which roles live, the two tables of edges, the kinds, and how kinds join.
 use mathlib.Core.Path.{_≡_}
-use mathlib.Core.Bool.{Bool, true, false}
+use mathlib.Core.Bool.{Bool, true, false, _||_}
 use mathlib.Core.List.{List, [], _∷_}
 use Prim.Native.Nat.{ℕ, _^_, _<_}
+use lib.Dec.{eqb}
 use lib.ListN.{getD, length}
 use Rattle.sets.specs.Sets.{bit, _isIn_}
 
@@ -41,6 +42,13 @@ kindOf false false = 0
 kindOf true false = 1
 kindOf false true = 2
 kindOf true true = 3
+
+-- which parts a kind has: 1 is I, 2 is A, 3 is both
+abbrev pub hasI : ℕ → Bool
+hasI k = eqb k 1 || eqb k 3
+
+abbrev pub hasA : ℕ → Bool
+hasA k = eqb k 2 || eqb k 3
 
 -- the kind of the pair of senior x and junior y
 unfoldable pub kind : Tables → ℕ → ℕ → ℕ

@@ -1,8 +1,7 @@
 use mathlib.Core.Path.{sym, ap, ap₂, _∙_}
 use mathlib.Core.Bool.{not, _&&_, _||_}
 use Rattle.sets.specs.Sets.{bit}
-use Rattle.hierarchy.specs.Tables.{row}
-use Rattle.board.specs.Effects.{hasA}
+use Rattle.hierarchy.specs.Tables.{row, hasA}
 use Rattle.board.proofs.Trying.{role-lt}
 use borrow.Author.Needs.{needs}
 use Rattle.board.proofs.commands.parts_stand.Statement.{statement}
