@@ -19,6 +19,8 @@
  *     uint64_t r = board_command(file, len, &c, next, sizeof next);
  *     if (BOARD_NUMBER(r) == 0)
  *         fwrite(next, 1, BOARD_VALUE(r), stdout);                 // the new file
+ *     else if (BOARD_CAUSE(r) == BOARD_CAUSE_IN_THE_WAY)           // only a 6 has a cause
+ *         printf("role %u is in the way of role %u\n", BOARD_IN_THE_WAY(r), BOARD_OFFENDING(r));
  *     else
  *         printf("refused: %u\n", BOARD_NUMBER(r));
  */
@@ -36,7 +38,7 @@ extern "C" {
 #define BOARD_EDGES 2016 /* the most a board can have without a loop */
 #define BOARD_FILE 6118  /* the bytes of the longest board file */
 
-/* ---- answers: a refusal number, where it arose, and a value, in one number */
+/* ---- answers: a refusal number, where it arose, a value, and why a role is out of scope, in one number */
 
 /* 0 done; 1 the board is not sound; 2 a number out of range; 3 a role isn't live; 4 the role, or every part named of
  * the edge, stands already; 5 there is no such edge, or a part to be removed is missing; 6 out of the actor's scope; 7
@@ -53,6 +55,22 @@ extern "C" {
 /* Beside a refusal the value is 0, and BOARD_NO_MANAGER from board_manager. */
 #define BOARD_VALUE(answer) ((uint32_t)((answer) >> 16 & 0xffff))
 
+/* What is out of scope, and why. A command's 6 has all three; board_scope's no has the cause and the role in the way,
+ * beside offending role 0. With every other answer they are 0, but that board_stretch has its length there.
+ *
+ * The offending role is the first that isn't in the actor's scope or, where that is asked, in its strict scope, which
+ * leaves out the actor. Looked through in this order: the role of code 2 (strict) or the senior, the junior, then the
+ * A-seniors, I-seniors, A-juniors (strict) and I-juniors (strict) of code 1, each set from its lowest role. */
+#define BOARD_OFFENDING(answer) ((uint32_t)((answer) >> 32 & 0xff))
+
+#define BOARD_CAUSE(answer) ((uint32_t)((answer) >> 40 & 0xff))
+#define BOARD_CAUSE_NOT_DERIVED 1 /* the actor doesn't derive the role */
+#define BOARD_CAUSE_IN_THE_WAY 2  /* the actor does, and so does a live role unrelated to the actor */
+#define BOARD_CAUSE_ITSELF 3      /* the role is the actor, and strict scope is asked */
+
+/* The lowest such role, which may be role 0: neither it nor the actor derives the other. Beside another cause this is 0. */
+#define BOARD_IN_THE_WAY(answer) ((uint32_t)((answer) >> 48 & 0xff))
+
 /* ---- boards */
 
 /* Bit r of `live`: role r is live. Bit j of i[s] (of a[s]): senior s has junior j in the I table (in the A table).
@@ -64,6 +82,7 @@ extern "C" {
  * After a call on it that answered 0 a board is sound, and a program may read these questions' answers off it:
  *     does x derive y           derives[x] >> y & 1
  *     is r in the scope of a    (derives[a] >> r & 1) && (derivers[r] & ~(derives[a] | derivers[a])) == 0
+ *     who is in a's way to r    where a derives r, the lowest role of derivers[r] & ~(derives[a] | derivers[a])
  *     the line manager of r     manager[r]
  *     the steps from r          how often r = manager[r] until r is 0, for a live r */
 struct board {
@@ -97,11 +116,11 @@ struct command {
 };
 
 /* One command on a board. Number 0 changes the board, tables and what follows from them; any other leaves it as it was.
- * Place and value are 0. */
+ * Place and value are 0; a 6 has the offending role, its cause and the role in the way. */
 uint64_t board_apply(struct board *b, const struct command *c);
 
 /* The same on the board in a file. Done puts the new file at the start of `out` (BOARD_FILE bytes are always enough),
- * and its length is the value; the rest of `out` stays. A refusal leaves all of `out` as it was. */
+ * and its length is the value; the rest of `out` stays. A refusal leaves all of `out` as it was; a 6 has the same. */
 uint64_t board_command(const uint8_t *file, size_t file_len, const struct command *c, uint8_t *out, size_t out_len);
 
 /* ---- questions about the board in a file: each call reads it anew */
@@ -112,7 +131,8 @@ uint64_t board_check(const uint8_t *file, size_t file_len);
 /* Does x derive y: the value is 1 for yes, 0 for no. */
 uint64_t board_derives(const uint8_t *file, size_t file_len, uint32_t x, uint32_t y);
 
-/* Is r in the scope of a, and how many live roles are in that scope, a itself among them. */
+/* Is r in the scope of a, and how many live roles are in that scope, a itself among them. A no has cause 1 or 2, and
+ * the role in the way. */
 uint64_t board_scope(const uint8_t *file, size_t file_len, uint32_t a, uint32_t r);
 #define BOARD_SCOPE_YES(answer) ((uint32_t)((answer) >> 16 & 1))
 #define BOARD_SCOPE_COUNT(answer) ((uint32_t)((answer) >> 17 & 0x7fff))

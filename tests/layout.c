@@ -50,18 +50,18 @@ static void complain(const char *what)
 }
 
 /* Through both calls, whatever the filler holds. */
-static void gives(struct command c, uint64_t number, const struct state *after)
+static void gives(struct command c, uint64_t answer, const struct state *after)
 {
     for (int filler = 0; filler <= 255; filler += 85, calls++) {
         struct state s = before, want = *after;
         memset((uint8_t *)&c + FILLER, filler, 4);
         uint64_t applied = subject.apply(&s.board, &c), said = subject.command(before.file, before.len, &c, s.file, 40);
-        if (applied == number && said == (number != 0 ? number : want.len << 16) &&
+        if (applied == answer && said == (answer != 0 ? answer : want.len << 16) &&
             memcmp(&s.board, &want.board, sizeof s.board) == 0 && memcmp(s.file, want.file, 40) == 0)
             continue;
-        printf("layout wrong (" SUBJECT_NAME "): %u,%u,%u,%u,%u gives %#llx and %#llx, not %llu, or another board\n",
+        printf("layout wrong (" SUBJECT_NAME "): %u,%u,%u,%u,%u gives %#llx and %#llx, not %#llx, or another board\n",
                c.code, c.actor, c.role, c.junior, c.kind, (unsigned long long)applied, (unsigned long long)said,
-               (unsigned long long)number);
+               (unsigned long long)answer);
         wrong++;
     }
 }
@@ -97,7 +97,8 @@ int main(void)
             if (role == 0 || !(all[k]->board.live >> role & 1)) all[k]->board.manager[role] = BOARD_NO_MANAGER;
 
     const struct command change = {5, 3, 4, 6, 2, 1, 2, 4, 8}, add = {1, 3, 9, 64, 65, 0x10, 0x8, 0x40, 0x100};
-    static const uint32_t bad[5] = {2, 6, 0, 9, 4}, number[5] = {9, 6, 5, 3, 2};
+    static const uint32_t bad[5] = {2, 6, 0, 9, 4};
+    static const uint64_t answer[5] = {9, 6 | 4ull << 32 | 1ull << 40, 5, 3, 2}; /* 6 doesn't derive the senior, 4 */
     struct command c;
     uint32_t *const field[5] = {&c.code, &c.actor, &c.role, &c.junior, &c.kind};
 
@@ -105,7 +106,7 @@ int main(void)
     gives(add, 0, &grown);
     for (int k = 0; k < 5; k++) {
         c = change, *field[k] = bad[k];
-        gives(c, number[k], &before);
+        gives(c, answer[k], &before);
         c = change, *field[k] += 256;
         gives(c, 2, &before);
     }

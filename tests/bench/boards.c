@@ -79,6 +79,16 @@ static void renumbered(struct sample *s, int is_tree, unsigned stride, const cha
     finish(s, at_place(63, stride));
 }
 
+/* Role 1 below 0, 2 to 62 below 1, and 63 below them all: each of those has the others in its way to 63. */
+static void crossed(struct sample *s)
+{
+    begin(s);
+    strcpy(s->name, "crossed, 64 roles");
+    edge(&s->board, 0, 1, 1);
+    for (unsigned x = 2; x < 63; x++) edge(&s->board, 1, x, 2), edge(&s->board, x, 63, 1);
+    finish(s, 63);
+}
+
 void dense(struct sample *s, unsigned roles, unsigned edges)
 {
     unsigned put = 0;
@@ -99,6 +109,7 @@ void choose(struct sample *s, int board)
     case TREE_64: tree(s, 64); break;
     case CHAIN_UPWARDS: renumbered(s, 0, 61, "upwards"); break;
     case TREE_MIXED: renumbered(s, 1, 37, "mixed"); break;
+    case CROSSED: crossed(s); break;
     default: renumbered(s, 0, 37, "mixed");
     }
 }
@@ -108,12 +119,13 @@ void choose(struct sample *s, int board)
 const char *const deed_name[DEEDS] = {"apply, done", "apply, refused 6", "apply, refused 7", "command, done",
                                       "check",       "derives",          "scope",            "manager",
                                       "steps",       "stretch",          "read",             "write",
-                                      "view, stored", "view, by calls"};
+                                      "apply, barred", "scope, barred",  "view, stored",     "view, by calls"};
 
 const struct table tables[TABLES] = {
     {"Each call", 4, CALLS, {FOUNDING, TREE_20, CHAIN_64, FULL},
      {DONE, REFUSED_6, REFUSED_7, COMMAND, CHECK, DERIVES, SCOPE, MANAGER, STEPS, STRETCH, READ, WRITE}},
     {"Numbered another way", 3, 4, {CHAIN_UPWARDS, TREE_MIXED, CHAIN_MIXED}, {DONE, REFUSED_7, CHECK, STEPS}},
+    {"With roles in the way", 1, 2, {CROSSED}, {BARRED_6, BARRED_SCOPE}},
     {"The tree view", 3, 2, {CHAIN_64, TREE_64, FULL}, {VIEW_STORED, VIEW_BY_CALLS}},
 };
 
@@ -167,6 +179,7 @@ long perform(enum deed deed, const struct calls *c, struct sample *s, long times
     const struct command come = {.code = 1, .role = 1, .i_seniors = 1}, go = {.code = 2, .role = 1};
     const struct command turn = {.code = 5, .junior = 1, .kind = kind % 3 + 1};
     const struct command keep = {.code = 5, .junior = 1, .kind = kind};
+    const struct command barred = {.code = 5, .actor = 62, .role = 62, .junior = 63, .kind = 1};
     const struct command founder_goes = {.code = 2}, loop = {.code = 3, .role = last == 0 ? 0 : 1, .kind = 1};
 
     switch (deed) {
@@ -187,6 +200,8 @@ long perform(enum deed deed, const struct calls *c, struct sample *s, long times
     case STRETCH: REPEAT(c->stretch(file, len, last), 0); break;
     case READ: REPEAT(c->read(file, len, &other), 0); break;
     case WRITE: REPEAT(c->write(b, out, sizeof out, 0), 0); break;
+    case BARRED_6: REPEAT(BOARD_CAUSE(c->apply(b, &barred)), BOARD_CAUSE_IN_THE_WAY); break;
+    case BARRED_SCOPE: REPEAT(BOARD_CAUSE(c->scope(file, len, 62, 63)), BOARD_CAUSE_IN_THE_WAY); break;
     case VIEW_STORED:
         for (long k = 0; k < times; k++) view_stored(c, s);
         break;

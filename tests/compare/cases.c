@@ -145,6 +145,58 @@ static void tally_parts(enum call call, const struct view *v, const struct comma
         tally.kind_range[code][c->kind == 0 ? 0 : c->kind <= 255 ? 1 : 2]++;
 }
 
+/* The role in the way of a at r, and the lower numbers it was found behind. */
+static void tally_way(enum call call, const struct view *v, int a, int r, int in_the_way)
+{
+    bool met[WAYS] = {[ROLE_0] = in_the_way == 0};
+    for (int x = 0; x < ROLES; x++) {
+        if (bars(v, x, a, r)) met[OF_SEVERAL] |= x != in_the_way;
+        else if (x > in_the_way || x == a || x == r) continue;
+        else if (!v->board.live[x]) met[PAST_DEAD] = true;
+        else if (!v->derives[x][r]) met[PAST_ASIDE] |= !v->derives[x][a] && !v->derives[a][x];
+        else met[v->derives[x][a] ? PAST_ABOVE : PAST_BELOW] = true;
+    }
+    for (int k = 0; k < WAYS; k++) tally.way[call][k] += met[k];
+}
+
+static uint64_t *set_of(struct command *c, enum named named)
+{
+    uint64_t *const at[] = {&c->a_seniors, &c->i_seniors, &c->a_juniors, &c->i_juniors};
+    return at[named - A_SENIORS];
+}
+
+/* The command as if its roles were looked for there first. */
+static struct command from(const struct command *c, enum named named)
+{
+    struct command rest = *c;
+    if (named == THE_JUNIOR) rest.role = c->junior;
+    for (int other = A_SENIORS; other < NAMED && named >= A_SENIORS; other++)
+        if (other != (int)named) *set_of(&rest, other) = 0;
+    return rest;
+}
+
+static void tally_offence(enum call call, const struct view *v, const struct command *c, uint8_t number)
+{
+    if (c->actor >= ROLES || c->code < ADD_ROLE || c->code > CHANGE_EDGE) return;
+    struct offence first = first_offence(v, c);
+    int named = first.named;
+    if (number >= 1 && number <= 5 && first.why.cause != 0) tally.unnamed[call][number]++;
+    if (number != 6) return;
+    if (first.why.cause == 0) disagree("both give 6, and by the model no role offends");
+    tally.cause[call][c->code][named][first.why.cause]++;
+    if (first.why.cause == IN_THE_WAY) tally_way(call, v, c->actor, first.role, first.why.in_the_way);
+
+    for (int there = named; there < NAMED; there++) {
+        struct command rest = from(c, there);
+        if (there == named && named >= A_SENIORS) *set_of(&rest, named) &= ~(1ull << first.role);
+        struct offence other = first_offence(v, &rest);
+        if (other.why.cause != 0 && other.role != first.role) tally.beside[call][named][there]++;
+    }
+    if (named == THE_JUNIOR && c->role == c->actor) tally.actor_named[call][THE_SENIOR]++;
+    if (named > A_SENIORS && in(c->a_seniors, c->actor)) tally.actor_named[call][A_SENIORS]++;
+    if (named > I_SENIORS && in(c->i_seniors, c->actor)) tally.actor_named[call][I_SENIORS]++;
+}
+
 /* A board that is lent to be changed: behind it is the wall. */
 struct lent_board {
     uint8_t before[GUARD];
@@ -162,11 +214,12 @@ uint8_t try_apply(const struct view *v, const struct board *b, const struct comm
     paint((uint8_t *)&want, sizeof want);
     want.board = *b;
     struct lent_board *lent = lend(THE_BOARD, &want, sizeof want);
-    uint8_t number = decide(v, c, after);
+    unsigned long long answer = answer_apply(v, c, after);
+    uint8_t number = BOARD_NUMBER(answer);
     if (number == 0) to_board(after, &want.board);
 
-    uint64_t said = subject.apply(&lent->board, command);
-    if (said != number) disagree("answer %#llx, the model %#x", (unsigned long long)said, number);
+    unsigned long long said = subject.apply(&lent->board, command);
+    if (said != answer) disagree("answer %#llx, the model %#llx", said, answer);
     if (memcmp(&lent->board, &want.board, offsetof(struct board, derives)) != 0)
         disagree("number %u, another board afterwards", number);
     if (memcmp(&lent->board, &want.board, sizeof want.board) != 0)
@@ -176,6 +229,7 @@ uint8_t try_apply(const struct view *v, const struct board *b, const struct comm
 
     tally_wide(APPLY, v, c, number);
     tally_parts(APPLY, v, c, number);
+    tally_offence(APPLY, v, c, number);
     tally.apply[code_class(c)][number]++;
     if (number == 0 && c->code == CHANGE_EDGE && memcmp(b, &want.board, sizeof *b) == 0) tally.idle_change++;
     if (number == 7 && c->code == ADD_EDGE && !v->derives[c->junior][c->role]) tally.hidden_loop++;
@@ -220,7 +274,10 @@ void try_question(const struct opened *o, enum call call, uint32_t x, uint32_t y
     bool some = call == SCOPE ? value & 1 : call == MANAGER ? value != NONE : value != 0;
     tally.value[call][some]++;
     if (call == STEPS && (long)value > tally.most_steps) tally.most_steps = value;
-    if (call == SCOPE && !some && seniors_in_scope(&o->view, x, y)) tally.seniors_in_scope++;
+    if (call != SCOPE) return;
+    tally.scope[BOARD_CAUSE(want)]++;
+    if (BOARD_CAUSE(want) == IN_THE_WAY) tally_way(SCOPE, &o->view, x, y, BOARD_IN_THE_WAY(want));
+    if (!some && seniors_in_scope(&o->view, x, y)) tally.seniors_in_scope++;
 }
 
 void try_command(const struct opened *o, const struct command *c, size_t room)
@@ -245,6 +302,7 @@ void try_command(const struct opened *o, const struct command *c, size_t room)
     if (o->number == 0) {
         tally_wide(COMMAND, &o->view, c, BOARD_NUMBER(answer));
         tally_parts(COMMAND, &o->view, c, BOARD_NUMBER(answer));
+        tally_offence(COMMAND, &o->view, c, BOARD_NUMBER(answer));
     }
     tally.command[code_class(c)][BOARD_PLACE(answer)][BOARD_NUMBER(answer)]++;
     if (BOARD_NUMBER(answer) == 0 && BOARD_VALUE(answer) == room) tally.room_exact++;

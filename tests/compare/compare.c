@@ -245,10 +245,10 @@ static void rare_refusals(void)
     struct command c;
     draw_tied(&here);
     start();
-    if (draw_refused(&here, ADD_ROLE, 9, &c)) try_both(&c);
-    if (draw_refused(&here, ADD_EDGE, 9, &c)) try_both(&c);
-    if (draw_part_refused(&here, ADD_EDGE, 9, &c)) try_both(&c);
-    if (draw_refused(&here, CHANGE_EDGE, 9, &c)) try_both(&c);
+    draw_refused(&here, ADD_ROLE, 9, &c), try_both(&c);
+    draw_refused(&here, ADD_EDGE, 9, &c), try_both(&c);
+    draw_part_refused(&here, ADD_EDGE, 9, &c), try_both(&c);
+    draw_refused(&here, CHANGE_EDGE, 9, &c), try_both(&c);
     open_file(&opened, file, make_file(AS_WRITTEN, &here, file));
     for (int k = 0; k < 10; k++) {
         uint32_t a = some_role(), r = some_role();
@@ -256,11 +256,29 @@ static void rare_refusals(void)
     }
     draw_chained(&here);
     start();
-    if (draw_refused(&here, ADD_ROLE, 7, &c)) try_both(&c);
+    draw_refused(&here, ADD_ROLE, 7, &c), try_both(&c);
     if (draw_hidden_loop(&here, &c)) try_both(&c);
     draw_forked(&here);
     start();
-    if (draw_part_refused(&here, REMOVE_EDGE, 9, &c)) try_both(&c);
+    draw_part_refused(&here, REMOVE_EDGE, 9, &c), try_both(&c);
+}
+
+/* A role that offends wherever a command can name one, by every cause, and more than one at once. */
+static void offending_roles(void)
+{
+    static const uint8_t codes[] = {1, 1, 1, 1, 2, 2, 3, 3, 4, 4, 5, 5};
+    struct command c;
+    if (chance(80)) draw_crossed(&here);
+    else draw_sound(&here, 12);
+    start();
+    open_file(&opened, file, make_file(AS_WRITTEN, &here, file));
+    for (size_t k = 0; k < sizeof codes; k++) {
+        draw_offence(&here, codes[k], &c);
+        if (c.code == ADD_ROLE && chance(10)) c.role = c.actor; /* 4 comes first */
+        try_apply(&here, &board, &c, &after);
+        try_command(&opened, &c, ROOM);
+        if (c.code != ADD_ROLE) try_question(&opened, SCOPE, c.actor, c.role);
+    }
 }
 
 /* ---- all that is largest */
@@ -314,6 +332,7 @@ static int run(const struct size *size, uint64_t seed)
         written_boards();
         files_of_a_board();
         rare_refusals();
+        offending_roles();
         if (round % 2 == 0) largest_boards();
         if (round == 0) deepest_board();
     }

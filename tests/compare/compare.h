@@ -19,12 +19,15 @@ void draw_any(struct view *v, int most);    /* no loop, and mostly not sound */
 void draw_tied(struct view *v);             /* small, sound, and easily left with a role unmanaged */
 void draw_chained(struct view *v);          /* small, sound, with roles that reach what they don't derive */
 void draw_forked(struct view *v);           /* small, sound, with a role that one part of an edge keeps managed */
+void draw_crossed(struct view *v);          /* small, sound, with roles in each other's way */
 void draw_command(const struct view *v, struct command *c);
 enum { CODE, ACTOR, ROLE, JUNIOR, KIND, FIELDS };
 uint32_t *field_of(struct command *c, int field);
-/* Draws until the model gives this number, or gives up: some numbers are rare. */
-bool draw_refused(const struct view *v, int code, int number, struct command *c);
-bool draw_part_refused(const struct view *v, int code, int number, struct command *c); /* where another kind stands */
+/* Draws until the model gives this number, for some are rare, or gives up and stays with a command that is done. */
+void draw_refused(const struct view *v, int code, int number, struct command *c);
+void draw_part_refused(const struct view *v, int code, int number, struct command *c); /* where another kind stands */
+/* A 6, for a role at a place in the command and by a cause that are drawn too; or gives up, with any command. */
+void draw_offence(const struct view *v, int code, struct command *c);
 /* An edge whose junior reaches its senior and doesn't derive it. */
 bool draw_hidden_loop(const struct view *v, struct command *c);
 
@@ -76,6 +79,8 @@ int replay(const char *name);         /* a file of case lines, or "-" */
 void watch_for_crashes(void);
 
 /* ---- tally.c: how often each number arose */
+/* The role in the way: 0; the lowest of several; and lower numbers that are not in the way, for four reasons. */
+enum { ROLE_0, OF_SEVERAL, PAST_ABOVE, PAST_BELOW, PAST_ASIDE, PAST_DEAD, WAYS };
 struct tally {
     long commands, files, calls;
     long apply[6][13];
@@ -89,6 +94,12 @@ struct tally {
     long damage[64][13];
     long parts[2][3][4][4]; /* of apply and command, by code of an edge: kind named, kind standing */
     long kind_range[3][3];  /* by code of an edge, 2 for the kind alone: 0, to 255, above */
+    long cause[2][6][NAMED][4];   /* of a 6 from apply and command: code, where the offending role is named, cause */
+    long beside[2][NAMED][NAMED]; /* where that is, and where another offends that would be named if looked for there */
+    long actor_named[2][NAMED];   /* the actor stands there, where scope is enough, and a later role offends */
+    long unnamed[2][6];           /* a role offends, and another number comes first */
+    long way[CALL_COUNT][WAYS];   /* cause 2, of apply, command and scope */
+    long scope[4];                /* yes, and a no by its cause */
     long full_roles, full_edges, longest_file, too_long_file, many_edges; /* edges of size */
     long room_exact, room_short, room_none, idle_change, most_steps;
     long hidden_loop, seniors_in_scope, part_added, part_taken; /* where a careful reader slips; the last two give 9 */

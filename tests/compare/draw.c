@@ -112,6 +112,30 @@ static void draw_fork(struct model *m, const int order[ROLES])
     }
 }
 
+/* Roles below 0 by I, below the first of them more by A, and below several of those the same roles: each of the several
+ * is in the others' way, and so is 0 where it has such a role by I. The first administers them all. */
+static void draw_cross(struct model *m, const int order[ROLES])
+{
+    int middle = 2 + below(3), bottom = middle + 2 + below(3), leaf = bottom + 1 + below(3);
+    found(m);
+    lean = 3;
+    for (int k = 1; k < leaf; k++) {
+        int r = order[k];
+        m->live[r] = true;
+        if (k < middle) m->kind[0][r] = 1;
+        else if (k < bottom) {
+            m->kind[order[1]][r] = 2;
+            if (k > middle && chance(20)) m->kind[order[k - 1]][r] = 3;
+        } else {
+            for (int s = middle; s < bottom; s++)
+                if (s < middle + 2 || chance(60)) draw_edge(m, order[s], r);
+            if (chance(40)) m->kind[0][r] = 1;
+        }
+    }
+    m->live[order[leaf]] = true;
+    draw_edge(m, order[leaf - 1], order[leaf]);
+}
+
 void draw_any(struct view *v, int most)
 {
     int order[ROLES], roles = 2 + below(most - 1);
@@ -176,6 +200,14 @@ void draw_forked(struct view *v)
     int order[ROLES];
     draw_order(order);
     draw_fork(&v->board, order);
+    look(v);
+}
+
+void draw_crossed(struct view *v)
+{
+    int order[ROLES];
+    draw_order(order);
+    draw_cross(&v->board, order);
     look(v);
 }
 
@@ -598,26 +630,30 @@ void draw_command(const struct view *v, struct command *c)
     if (chance(5)) spoil_width(c);
 }
 
-static bool draw_until(const struct view *v, int code, int number, bool part, struct command *c)
+static void draw_until(const struct view *v, int code, int number, bool part, struct command *c)
 {
     static struct view after;
+    struct command done;
+    draw_of_code(v, code, &done);
     for (int k = 0; k < 30; k++) {
         draw_of_code(v, code, c);
         uint32_t standing = part ? v->board.kind[c->role][c->junior] : 0;
         if (part && (standing == 0 || standing == c->kind)) continue;
-        if (decide(v, c, &after) == number) return true;
+        uint8_t given = decide(v, c, &after);
+        if (given == number) return;
+        if (given == 0) done = *c;
     }
-    return false;
+    *c = done;
 }
 
-bool draw_refused(const struct view *v, int code, int number, struct command *c)
+void draw_refused(const struct view *v, int code, int number, struct command *c)
 {
-    return draw_until(v, code, number, false, c);
+    draw_until(v, code, number, false, c);
 }
 
-bool draw_part_refused(const struct view *v, int code, int number, struct command *c)
+void draw_part_refused(const struct view *v, int code, int number, struct command *c)
 {
-    return draw_until(v, code, number, true, c);
+    draw_until(v, code, number, true, c);
 }
 
 bool draw_hidden_loop(const struct view *v, struct command *c)
@@ -628,4 +664,80 @@ bool draw_hidden_loop(const struct view *v, struct command *c)
         if (v->reaches[c->junior][c->role] && !v->derives[c->junior][c->role]) return true;
     }
     return false;
+}
+
+/* ---- commands that give 6 */
+
+static int pick_in_scope(const struct view *v, int a)
+{
+    int scope[ROLES], count = roles_in_scope(v, a, scope);
+    return scope[below(count)];
+}
+
+/* A live role; half the time one that the actor derives, and another bars, where there is one. */
+static int pick_barred(const struct view *v, int a)
+{
+    bool barred[ROLES];
+    for (int r = 0; r < ROLES; r++) barred[r] = v->derives[a][r] && !in_scope(v, a, r);
+    int r = chance(50) ? pick(barred) : NONE;
+    return r != NONE ? r : pick_live(&v->board);
+}
+
+/* Before that set only roles in scope; in it and behind it any. */
+static void any_from(const struct view *v, enum named named, struct command *c)
+{
+    uint64_t *const set[NAMED] = {[A_SENIORS] = &c->a_seniors, &c->i_seniors, &c->a_juniors, &c->i_juniors};
+    for (int k = A_SENIORS; k < NAMED; k++) {
+        *set[k] = 0;
+        for (int n = (k == (int)named) + below(3); n > 0; n--)
+            *set[k] |= one(k < (int)named ? pick_in_scope(v, c->actor) : pick_barred(v, c->actor));
+    }
+    if (named == I_JUNIORS) c->a_juniors &= ~one(c->actor);
+}
+
+/* False where the senior offends and the junior is wanted, or the other way about, and where 4 would come first. */
+static bool edge_to_offend(const struct view *v, enum named named, struct command *c)
+{
+    c->kind = 1 + below(3);
+    if (c->code == ADD_EDGE) {
+        c->role = named == THE_JUNIOR ? pick_in_scope(v, c->actor) : pick_barred(v, c->actor);
+        c->junior = pick_barred(v, c->actor);
+        if ((c->kind & ~v->board.kind[c->role][c->junior]) == 0) return false;
+    } else if (!pick_edge(&v->board, &c->role, &c->junior)) return false;
+    if (c->code == REMOVE_EDGE) c->kind = v->board.kind[c->role][c->junior];
+    return in_scope(v, c->actor, c->role) == (named == THE_JUNIOR);
+}
+
+static enum named some_field(int code)
+{
+    if (code == ADD_ROLE) return A_SENIORS + below(4);
+    return code == REMOVE_ROLE ? THE_REMOVED : chance(50) ? THE_SENIOR : THE_JUNIOR;
+}
+
+/* The cause of the lowest role there that offends, or 0. */
+static int cause_at(const struct view *v, const struct command *c, enum named named, bool strict)
+{
+    const uint64_t roles[NAMED] = {one(c->role),  one(c->role),  one(c->junior), c->a_seniors,
+                                   c->i_seniors, c->a_juniors, c->i_juniors};
+    int cause = 0;
+    for (int r = 0; r < ROLES && cause == 0; r++)
+        if (in(roles[named], r)) cause = why(v, c->actor, r, strict).cause;
+    return cause;
+}
+
+/* Nothing offends before the place that is drawn, which is then looked at by itself: a model that has the order wrong still
+ * gets the commands that show it. */
+void draw_offence(const struct view *v, int code, struct command *c)
+{
+    enum named named = some_field(code);
+    bool strict = named == THE_REMOVED || named >= A_JUNIORS;
+    int cause = 1 + below(strict ? 3 : 2);
+    for (int k = 0; k < 60; k++) {
+        noise(c);
+        c->code = code, c->actor = pick_live(&v->board);
+        if (code == ADD_ROLE) c->role = pick_dead(&v->board), any_from(v, named, c);
+        else if (code == REMOVE_ROLE) c->role = cause == ITSELF ? c->actor : (uint32_t)pick_barred(v, c->actor);
+        else if (!edge_to_offend(v, named, c)) continue;
+        if (cause_at(v, c, named, strict) == cause) return;
+    }
 }

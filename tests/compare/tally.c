@@ -110,6 +110,107 @@ static void parts(void)
     }
 }
 
+/* ---- why a role is out of scope */
+
+static const char *const named_name[NAMED] = {"role",      "senior",    "junior",   "A-seniors",
+                                              "I-seniors", "A-juniors", "I-juniors"};
+
+static bool can_name(int code, int named)
+{
+    if (code == ADD_ROLE) return named >= A_SENIORS;
+    return code == REMOVE_ROLE ? named == THE_REMOVED : named == THE_SENIOR || named == THE_JUNIOR;
+}
+
+static bool is_strict(int named) { return named == THE_REMOVED || named == A_JUNIORS || named == I_JUNIORS; }
+
+static void causes(void)
+{
+    static const char *const columns[] = {"1", "2", "3", "c 1", "c 2", "c 3"};
+    char what[40], of[40];
+    heading("cause of a 6 (c command)", columns, 6);
+    for (int row = 0; row < 5 * NAMED; row++) {
+        int code = 1 + row / NAMED, named = row % NAMED;
+        if (!can_name(code, named)) continue;
+        sprintf(what, "%s, %s", code_name[code], named_name[named]);
+        printf("%-36s", what);
+        for (int k = 0; k < 6; k++) printf("%8ld", tally.cause[k / 3][code][named][1 + k % 3]);
+        printf("\n");
+        for (int k = 0; k < 6; k++) {
+            long count = tally.cause[k / 3][code][named][1 + k % 3];
+            sprintf(of, "cause %d, %s", 1 + k % 3, call_name[k / 3]);
+            if (k % 3 < 2 || is_strict(named)) need(count, what, of);
+            else never(count, what, of);
+        }
+    }
+}
+
+/* Which of two that offend is named shows the order. */
+static void orders(void)
+{
+    static const char *const columns[] = {"junior", "A-sen", "I-sen", "A-jun", "I-jun"};
+    char what[40], of[40];
+    heading("first to offend, and another too", columns, NAMED - THE_JUNIOR);
+    for (int row = 0; row < 2 * NAMED; row++) {
+        int call = row / NAMED, named = row % NAMED;
+        if (named == THE_REMOVED || named == THE_JUNIOR) continue; /* where nothing follows */
+        sprintf(what, "%s, %s", call_name[call], named_name[named]);
+        printf("%-36s", what);
+        for (int k = THE_JUNIOR; k < NAMED; k++) printf("%8ld", tally.beside[call][named][k]);
+        printf("\n");
+        for (int k = THE_JUNIOR; k < NAMED; k++) {
+            sprintf(of, "and another among its %s", named_name[k]);
+            if (named == THE_SENIOR ? k == THE_JUNIOR : k >= named) need(tally.beside[call][named][k], what, of);
+            else never(tally.beside[call][named][k], what, of);
+        }
+    }
+    printf("actor named there, another offends\n");
+    for (int row = 0; row < 2 * NAMED; row++) {
+        int call = row / NAMED, named = row % NAMED;
+        if (named != THE_SENIOR && named != A_SENIORS && named != I_SENIORS) continue;
+        sprintf(what, "%s, %s", call_name[call], named_name[named]);
+        printf("%-36s%8ld\n", what, tally.actor_named[call][named]);
+        need(tally.actor_named[call][named], what, "the actor, and another offends");
+    }
+}
+
+static void roles_in_the_way(void)
+{
+    static const char *const way[WAYS] = {"role 0", "lowest of several", "behind one that derives the actor",
+                                          "behind one that the actor derives", "behind one that doesn't derive it",
+                                          "behind one that isn't live"};
+    static const char *const columns[] = {"apply", "command", "scope"}, *const answers[] = {"yes", "no, 1", "no, 2"};
+    static const enum call calls[] = {APPLY, COMMAND, SCOPE};
+    heading("role in the way", columns, 3);
+    for (int k = 0; k < WAYS; k++) {
+        printf("%-36s", way[k]);
+        for (int c = 0; c < 3; c++) printf("%8ld", tally.way[calls[c]][k]);
+        printf("\n");
+        for (int c = 0; c < 3; c++) need(tally.way[calls[c]][k], columns[c], way[k]);
+    }
+    heading("scope, by cause", answers, 3);
+    printf("%-36s", call_name[SCOPE]);
+    for (int k = 0; k < 3; k++) printf("%8ld", tally.scope[k]);
+    printf("\n");
+    for (int k = 0; k < 3; k++) need(tally.scope[k], call_name[SCOPE], answers[k]);
+    never(tally.scope[ITSELF], call_name[SCOPE], "no, 3");
+}
+
+static void unnamed(void)
+{
+    static const char *const columns[] = {"1", "2", "3", "4", "5"};
+    char what[40];
+    heading("a role offends, another number", columns, 5);
+    for (int call = APPLY; call <= COMMAND; call++) {
+        printf("%-36s", call_name[call]);
+        for (int n = 1; n <= 5; n++) printf("%8ld", tally.unnamed[call][n]);
+        printf("\n");
+        for (int n = call == APPLY ? 1 : 2; n <= 5; n++) {
+            sprintf(what, "%d, though a role offends", n);
+            need(tally.unnamed[call][n], call_name[call], what);
+        }
+    }
+}
+
 /* Boards that give 1, from apply and from write each. */
 static void unsound_boards(void)
 {
@@ -262,6 +363,10 @@ int print_tally(long least)
     printf("\n");
     commands();
     parts();
+    causes();
+    orders();
+    roles_in_the_way();
+    unnamed();
     unsound_boards();
     reading_and_writing();
     questions();

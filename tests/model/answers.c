@@ -7,6 +7,12 @@ static uint64_t answer(uint8_t number, uint8_t place, uint64_t value)
     return number | (uint64_t)place << 8 | value << 16;
 }
 
+/* The answer with a role that offends, and why. */
+static uint64_t because(uint64_t reply, uint64_t role, struct why w)
+{
+    return reply | role << 32 | (uint64_t)w.cause << 40 | (uint64_t)w.in_the_way << 48;
+}
+
 void open_file(struct opened *o, const uint8_t *file, size_t len)
 {
     o->file = file;
@@ -41,7 +47,10 @@ uint64_t answer_scope(const struct opened *o, uint32_t a, uint32_t r)
 {
     uint64_t reply;
     if (refused(o, a, r, 0, &reply)) return reply;
-    return answer(0, ASKED, in_scope(&o->view, a, r) + 2 * scope_count(&o->view, a));
+    bool yes = in_scope(&o->view, a, r);
+    reply = answer(0, ASKED, yes + 2 * scope_count(&o->view, a));
+    if (yes) return reply;
+    return because(reply, 0, why(&o->view, a, r, false));
 }
 
 uint64_t answer_manager(const struct opened *o, uint32_t r)
@@ -72,14 +81,23 @@ uint64_t answer_stretch(const struct opened *o, uint32_t role)
     return answer(0, ASKED, start + (len << 16));
 }
 
+/* Of a command, but for what is written. Only a 6 says why. */
+uint64_t answer_apply(const struct view *before, const struct command *c, struct view *after)
+{
+    uint8_t number = decide(before, c, after);
+    if (number != 6) return answer(number, ASKED, 0);
+    struct offence first = first_offence(before, c);
+    return because(answer(number, ASKED, 0), first.role, first.why);
+}
+
 uint64_t answer_command(const struct opened *o, const struct command *c, uint8_t *out, size_t room)
 {
     static struct view after;
     size_t len;
     if (o->number != 0) return answer(o->number, IN_FILE, 0);
-    uint8_t number = decide(&o->view, c, &after);
-    if (number != 0) return answer(number, ASKED, 0);
-    number = write_file(&after, out, room, 0, &len);
+    uint64_t applied = answer_apply(&o->view, c, &after);
+    if (applied != 0) return applied;
+    uint8_t number = write_file(&after, out, room, 0, &len);
     return answer(number, number != 0 ? IN_WRITING : ASKED, len);
 }
 
@@ -119,9 +137,9 @@ uint64_t model_apply(struct board *b, const struct command *c)
 {
     static struct view before, after;
     from_board(b, &before);
-    uint8_t number = decide(&before, c, &after);
-    if (number == 0) to_board(&after, b);
-    return answer(number, ASKED, 0);
+    uint64_t applied = answer_apply(&before, c, &after);
+    if (applied == 0) to_board(&after, b);
+    return applied;
 }
 
 uint64_t model_command(const uint8_t *file, size_t len, const struct command *c, uint8_t *out, size_t room)

@@ -1,4 +1,5 @@
-/* The scope document's examples, and some of an edge's parts, on any implementation of board.h. */
+/* The scope document's examples, and some of an edge's parts and of roles that offend, on any implementation of
+ * board.h. */
 #include "model.h"
 #include <stdio.h>
 #include <string.h>
@@ -68,12 +69,34 @@ static void derives(int x, int y, bool want)
     expect(what, in(asked.derivers[y], x), want);
 }
 
+/* The bits of an answer that say what is out of scope and why, as board.h takes them apart. */
+static uint64_t reason(int role, int cause, int in_the_way)
+{
+    uint64_t bits = (uint64_t)role << 32 | (uint64_t)cause << 40 | (uint64_t)in_the_way << 48;
+    expect("the offending role", BOARD_OFFENDING(bits), role);
+    expect("the cause", BOARD_CAUSE(bits), cause);
+    expect("the role in the way", BOARD_IN_THE_WAY(bits), in_the_way);
+    return bits;
+}
+
+static uint64_t six(int role, int cause, int in_the_way) { return 6 | reason(role, cause, in_the_way); }
+
+/* r is not in the scope of a. */
+static void no_scope(int a, int r, int count, int cause, int in_the_way)
+{
+    char what[40];
+    sprintf(what, "why scope of %d hasn't %d", a, r);
+    expect(what, use->scope(file, len, a, r), (uint32_t)(count * 2) << 16 | reason(0, cause, in_the_way));
+}
+
+/* On boards where nothing is in the way of a. */
 static void scope(int a, uint64_t want, int count, int live)
 {
     char what[40];
     for (int r = 0; r < live; r++) {
         sprintf(what, "scope of %d has %d", a, r);
-        expect(what, use->scope(file, len, a, r), (uint32_t)(count * 2 + in(want, r)) << 16);
+        if (!in(want, r)) no_scope(a, r, count, BOARD_CAUSE_NOT_DERIVED, 0);
+        else expect(what, use->scope(file, len, a, r), (uint32_t)(count * 2 + 1) << 16);
         uint64_t related = asked.derives[a] | asked.derivers[a];
         expect(what, in(asked.derives[a], r) && (asked.derivers[r] & ~related) == 0, in(want, r));
     }
@@ -98,7 +121,7 @@ static void walk(int r, int want)
 }
 
 /* Gives the command, through both calls, and hands back the board afterwards, which a refusal leaves as it was. */
-static struct board gives(const char *what, struct board b, struct command c, uint8_t want)
+static struct board gives(const char *what, struct board b, struct command c, uint64_t want)
 {
     struct board after = b;
     uint8_t out[FILE_MAX];
@@ -164,6 +187,48 @@ static void part_by_part(void)
     gives("3 left to 1 and 2", board_of("0 IA 1, 0 I 2, 1 A 3, 2 A 3"), edge(4, 0, 0, 1, 2), 9);
 }
 
+/* Role 2 adds one; the sets are A-seniors, I-seniors, A-juniors, I-juniors. */
+static struct command by_2(int role, uint64_t as, uint64_t is, uint64_t aj, uint64_t ij)
+{
+    return (struct command){
+        .code = 1, .actor = 2, .role = role, .a_seniors = as, .i_seniors = is, .a_juniors = aj, .i_juniors = ij};
+}
+
+/* The role that offends first, and why. */
+static void offending(struct board p, struct board w)
+{
+    struct board b = board_of("0 I 1, 1 A 3, 3 I 4, 0 I 4");
+
+    gives("W, 4 changes 4 to 5", w, edge(5, 4, 4, 5, 1), six(5, 2, 3));
+    about(&w);
+    no_scope(4, 5, 1, 2, 3);
+    no_scope(3, 5, 1, 2, 4);
+    no_scope(4, 0, 1, 1, 0);
+    gives("3 removes 4, and 0 is in the way", b, remove_role(3, 4), six(4, 2, 0));
+    about(&b);
+    no_scope(3, 4, 1, 2, 0);
+    no_scope(0, 4, 2, 2, 3);
+    b = board_of("0 I 1, 1 A 2, 1 A 3, 1 A 4, 2 I 5, 3 I 5, 4 I 5");
+    gives("3 removes 5, and 2 and 4 are in the way", b, remove_role(3, 5), six(5, 2, 2));
+    gives("2 removes 5, and 3 and 4 are in the way", b, remove_role(2, 5), six(5, 2, 3));
+    gives("P, 1 removes 1", p, remove_role(1, 1), six(1, 3, 0));
+
+    /* 2 derives itself alone */
+    gives("P, senior 3 and junior 1 offend", p, edge(3, 2, 3, 1, 1), six(3, 1, 0));
+    gives("P, junior 1 offends", p, edge(3, 2, 2, 1, 1), six(1, 1, 0));
+    gives("P, all offend", p, by_2(4, 1 << 3, 1 << 1, 1 << 0, 1 << 0), six(3, 1, 0));
+    gives("P, all but the A-seniors offend", p, by_2(4, 1 << 2, 1 << 3, 1 << 1, 1 << 0), six(3, 1, 0));
+    gives("P, A-junior 3 and I-junior 1 offend", p, by_2(4, 1 << 2, 1 << 2, 1 << 3, 1 << 1), six(3, 1, 0));
+    gives("P, I-juniors 1 and 3 offend", p, by_2(4, 0, 1 << 2, 0, 1 << 1 | 1 << 3), six(1, 1, 0));
+    gives("P, I-juniors 2 and 3 offend", p, by_2(4, 0, 1 << 2, 0, 1 << 2 | 1 << 3), six(2, 3, 0));
+
+    /* another number has nothing beside it, whatever offends */
+    gives("P, 4 isn't live", p, edge(3, 2, 0, 4, 1), 3);
+    gives("P, the new role is live", p, by_2(3, 0, 1 << 1, 0, 0), 4);
+    gives("P, the edge stands", p, edge(3, 2, 0, 1, 1), 4);
+    gives("P, there is no edge", p, edge(4, 2, 0, 3, 1), 5);
+}
+
 int wrong_examples(const char *whose, const struct calls *of)
 {
     struct board p, w, l, founding, b;
@@ -194,7 +259,7 @@ int wrong_examples(const char *whose, const struct calls *of)
     manager(3, 1);
     walk(3, 2);
 
-    gives("P, 0 changes 1 to 3 into I", p, edge(5, 0, 1, 3, 1), 6);
+    gives("P, 0 changes 1 to 3 into I", p, edge(5, 0, 1, 3, 1), six(3, 1, 0));
     b = gives("P, 1 changes 1 to 3 into I", p, edge(5, 1, 1, 3, 1), 0);
     about(&b);
     derives(0, 3, true);
@@ -207,14 +272,14 @@ int wrong_examples(const char *whose, const struct calls *of)
     gives("P, 0 adds 4 with I-senior 1", p, c, 0);
 
     gives("P, 0 removes 1", p, remove_role(0, 1), 9);
-    gives("P, 0 removes 0", p, remove_role(0, 0), 6);
+    gives("P, 0 removes 0", p, remove_role(0, 0), six(0, 3, 0));
     b = gives("P, 1 removes 2", p, remove_role(1, 2), 0);
     c = add_role(1, 2);
     c.i_seniors = 1 << 1;
     b = gives("P, 2 is added again", b, c, 0);
     expect("P again", memcmp(&b, &p, sizeof b) != 0, false);
 
-    gives("P, 0 adds edge 3 to 0", p, edge(3, 0, 3, 0, 1), 6);
+    gives("P, 0 adds edge 3 to 0", p, edge(3, 0, 3, 0, 1), six(3, 1, 0));
     gives("P, 0 adds edge 2 to 1", p, edge(3, 0, 2, 1, 1), 7);
     gives("P, 0 adds edge 1 to 1", p, edge(3, 0, 1, 1, 1), 7);
 
@@ -232,6 +297,7 @@ int wrong_examples(const char *whose, const struct calls *of)
     gives("W with 2 I 3, 0 adds A to it", b, edge(3, 0, 2, 3, 2), 9);
 
     part_by_part();
+    offending(p, w);
 
     c = add_role(0, 63);
     c.i_seniors = 1;

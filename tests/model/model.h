@@ -52,6 +52,21 @@ bool sound(const struct view *v); /* both */
 /* The refusal number; `after` is the board afterwards where it is 0, and means nothing where it is not. */
 uint8_t decide(const struct view *before, const struct command *c, struct view *after);
 
+/* why.c: why a role is out of scope, and which role of a command is the first to offend */
+enum { NOT_DERIVED = 1, IN_THE_WAY, ITSELF };
+struct why {
+    uint8_t cause, in_the_way; /* cause 0: in scope */
+};
+bool bars(const struct view *v, int x, int a, int r); /* x keeps r out of the scope of a */
+struct why why(const struct view *v, int a, int r, bool strict); /* r is out of the scope, or strict scope, of a */
+enum named { THE_REMOVED, THE_SENIOR, THE_JUNIOR, A_SENIORS, I_SENIORS, A_JUNIORS, I_JUNIORS, NAMED };
+struct offence {
+    enum named named; /* where the command names the role */
+    int role;
+    struct why why; /* cause 0: none offends */
+};
+struct offence first_offence(const struct view *v, const struct command *c);
+
 /* file.c */
 size_t distance(const uint8_t *at); /* 16 bits, low byte first */
 uint8_t read_file(const uint8_t *file, size_t len, struct view *v);
@@ -67,6 +82,7 @@ struct opened {
     struct view view;
 };
 void open_file(struct opened *o, const uint8_t *file, size_t len);
+uint64_t answer_apply(const struct view *before, const struct command *c, struct view *after); /* as from decide */
 uint64_t answer_check(const struct opened *o);
 uint64_t answer_derives(const struct opened *o, uint32_t x, uint32_t y);
 uint64_t answer_scope(const struct opened *o, uint32_t a, uint32_t r);

@@ -154,8 +154,45 @@ static bool allowed(const struct board *b, const struct command *c)
     }
 }
 
+/* Why r is out of a's scope, where it stands in an answer; 0 for a role in scope. */
+static uint64_t cause(const struct board *b, unsigned a, unsigned r)
+{
+    set unrelated = b->derivers[r] & ~(b->derivers[a] | b->derives[a]);
+    if (!has(b->derives[a], r)) return (uint64_t)BOARD_CAUSE_NOT_DERIVED << 40;
+    return unrelated != 0 ? (uint64_t)BOARD_CAUSE_IN_THE_WAY << 40 | (uint64_t)lowest(unrelated) << 48 : 0;
+}
+
+/* The lowest of these that offends, and why; 0 where none does. */
+static uint64_t offending(const struct board *b, unsigned a, set named, bool strict)
+{
+    EACH(r, named) {
+        uint64_t why = strict && r == a ? (uint64_t)BOARD_CAUSE_ITSELF << 40 : cause(b, a, r);
+        if (why != 0) return r << 32 | why;
+    }
+    return 0;
+}
+
+/* The first that offends, of a command that isn't allowed. */
+static uint64_t first_offending(const struct board *b, const struct command *c)
+{
+    unsigned a = c->actor;
+    uint64_t found;
+    switch (c->code) {
+    case ADD_ROLE:
+        found = offending(b, a, c->a_seniors, false);
+        if (found == 0) found = offending(b, a, c->i_seniors, false);
+        if (found == 0) found = offending(b, a, c->a_juniors, true);
+        if (found == 0) found = offending(b, a, c->i_juniors, true);
+        return found;
+    case REMOVE_ROLE: return offending(b, a, only(c->role), true);
+    default:
+        found = offending(b, a, only(c->role), false);
+        return found != 0 ? found : offending(b, a, only(c->junior), false);
+    }
+}
+
 /* What refuses a command on a sound board before it is changed, or 0. */
-static uint8_t before(const struct board *b, const struct command *c)
+static uint64_t before(const struct board *b, const struct command *c)
 {
     bool on_edge = c->code >= ADD_EDGE;
     set named = only(c->actor & 63);
@@ -175,7 +212,7 @@ static uint8_t before(const struct board *b, const struct command *c)
         if (c->code == REMOVE_EDGE && missing != 0) return 5;
         if (c->code == CHANGE_EDGE && stands == 0) return 5;
     }
-    return allowed(b, c) ? 0 : 6;
+    return allowed(b, c) ? 0 : 6 | first_offending(b, c);
 }
 
 static void put_kind(struct board *b, unsigned senior, unsigned junior, unsigned kind)
@@ -222,10 +259,10 @@ uint64_t plain_apply(struct board *b, const struct command *c)
 {
     struct board next;
     if (!sound(b)) return 1;
-    uint8_t number = before(b, c);
-    if (number != 0) return number;
+    uint64_t refusal = before(b, c);
+    if (refusal != 0) return refusal;
     memcpy(&next, b, offsetof(struct board, derives)); /* the tables alone: the rest is worked out */
-    number = after(&next, c);
+    uint8_t number = after(&next, c);
     if (number == 0) *b = next;
     return number;
 }
@@ -315,7 +352,8 @@ uint64_t plain_scope(const uint8_t *file, size_t len, uint32_t a, uint32_t r)
     uint64_t refusal = ask(file, len, &b, a, r), count = 0;
     if (refusal != 0) return refusal;
     EACH(x, b.derives[a]) count += in_scope(&b, a, x);
-    return answer(0, ASKED, in_scope(&b, a, r) | count << 1);
+    uint64_t why = cause(&b, a, r);
+    return answer(0, ASKED, (why == 0) | count << 1) | why;
 }
 
 uint64_t plain_manager(const uint8_t *file, size_t len, uint32_t r)
@@ -350,9 +388,9 @@ uint64_t plain_command(const uint8_t *file, size_t len, const struct command *c,
     struct board b;
     uint8_t number = read_file(file, len, &b);
     if (number != 0) return answer(number, IN_FILE, 0);
-    number = before(&b, c);
-    if (number == 0) number = after(&b, c);
-    if (number != 0) return answer(number, ASKED, 0);
+    uint64_t refusal = before(&b, c);
+    if (refusal == 0) refusal = after(&b, c);
+    if (refusal != 0) return refusal;
     size_t written = write_file(&b, out, room);
     return written != 0 ? answer(0, ASKED, written) : answer(12, IN_WRITING, 0);
 }

@@ -10,6 +10,8 @@ pub mod EdgeParts
 pub mod TakingBack
 pub mod Looking
 pub mod Trying
+pub mod Blaming
+pub mod Offenders
 pub mod Asking
 pub mod Reading
 pub mod Fields

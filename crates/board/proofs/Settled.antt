@@ -1,7 +1,7 @@
 -- Two answers that a contract allows coincide: of a command, and of each question. Assumes nothing.
 use mathlib.Core.Path.{_≡_, refl, sym, ap, ap₂, _∙_, subst}
 use mathlib.Core.Bool.{Bool}
-use mathlib.Core.Logic.{_≢_, _↔_, dite}
+use mathlib.Core.Logic.{⊎-elim, _≢_, _↔_, dite}
 use mathlib.Core.List.{List}
 use Prim.Native.Nat.{ℕ}
 use native.Mathlib.Nat.{le-antisymm}
@@ -10,26 +10,29 @@ use lib.Count.{ones}
 use lib.ListN.{getD, length}
 use lib.Seq.{ext-getD}
 use Rattle.sets.specs.Sets.{_isIn_}
-use Rattle.sets.proofs.Bools.{test-unique}
+use Rattle.sets.proofs.Bools.{true-or-false, test-unique}
 use Rattle.sets.proofs.Laws.{ones-mono}
 use Rattle.hierarchy.specs.Tables.{Tables}
-use Rattle.hierarchy.specs.Words.{Sound}
-use Rattle.hierarchy.specs.Views.{LiveLoops, RightValues}
+use Rattle.hierarchy.specs.Words.{OutOfScope, Sound}
+use Rattle.hierarchy.specs.Views.{LiveLoops, OutOfScopeBy, RightValues}
 use Rattle.hierarchy.specs.First.{First}
 use Rattle.hierarchy.proofs.Admin.{sound-loopless, manager-unique}
 use Rattle.hierarchy.proofs.ClimbLaws.{climb-unique}
 use Rattle.hierarchy.proofs.FirstLaws.{first-unique}
 use Rattle.hierarchy.proofs.ManagerLaws.{values-unique}
+use Rattle.hierarchy.proofs.Bars.{out-unique, out-by-unique}
 use Rattle.board.specs.Boards.{tablesOf, boardOf, KeepsRight, SoundBoard}
 use Rattle.board.specs.Commands.{DecidedBy, Decided}
-use Rattle.board.specs.Questions.{refusals, Answered, Says, Counts, DerivesAnswer, ScopeAnswer, Manages, ManagerAnswer, StepsAnswer}
+use Rattle.board.specs.Questions.{refusals, Answered, Says, Counts, Tells, DerivesAnswer, ScopeAnswer, Manages, ManagerAnswer, StepsAnswer}
 use Rattle.board.specs.Looks.{DecidedOff, DerivesOff, ScopeOff, ManagerOff, StepsOff}
 use Rattle.board.specs.declared.Board.{Board}
 use Rattle.board.specs.declared.Command.{Command}
+use Rattle.board.specs.declared.commands.Answer.{Answer}
 use Rattle.board.specs.declared.questions.Manager.{Manager}
 use Rattle.board.specs.declared.questions.Manager.the-variants.{Role, Nobody}
 use Rattle.board.proofs.Rules.{stable, first-done}
 use Rattle.board.proofs.Asking.{asked-sound}
+use Rattle.board.proofs.Blaming.{blames-one, names-one}
 
 -- what comes with a number is one value where the number is 0, and one where it is not
 by-number : {A : Type 0} {x y : A} (n : ℕ) → (n ≡ 0 → x ≡ y) → (n ≢ 0 → x ≡ y) → x ≡ y
@@ -64,22 +67,23 @@ board-stable b d h = λ k. boardOf (live k) (part (λ x. x .i) k) (part (λ x. x
 
 -- ---- a command, by whatever table
 
-decided-one : {rules : List (ℕ × Type 0)} {Fit : Board → Type 0} {b : Board} {c : Command} {m n : ℕ} {x y : Board}
-    → (m ≡ 0 → Fit x → Fit y → tablesOf x ≡ tablesOf y → x ≡ y) → DecidedBy rules Fit b c m x → DecidedBy rules Fit b c n y → (m ≡ n) × (x ≡ y)
-decided-one {m = m} {n = n} one d e =
-    let q = first-unique _ m n (d .numbered) (e .numbered) in (
-      q,
-      by-number m
+decided-one : {rules : List (ℕ × Type 0)} {Blame : Answer → Type 0} {Fit : Board → Type 0} {b : Board} {c : Command} {m n : Answer} {x y : Board}
+    → (m .number ≡ n .number → Blame m → Blame n → m ≡ n) → (m .number ≡ 0 → Fit x → Fit y → tablesOf x ≡ tablesOf y → x ≡ y)
+    → DecidedBy rules Blame Fit b c m x → DecidedBy rules Blame Fit b c n y → (m ≡ n) × (x ≡ y)
+decided-one {m = m} {n = n} blamed one d e =
+    let q = first-unique _ (m .number) (n .number) (d .numbered) (e .numbered) in (
+      names-one (blamed q) q (d .named) (e .named),
+      by-number (m .number)
           (λ z. let f = d .done z in let g = e .done (sym q ∙ z) in one z (f .fit) (g .fit) (f .tables-are ∙ sym (g .tables-are)))
           (λ z. d .refused z ∙ sym (e .refused (λ w. z (q ∙ w)))),
     )
 
-pub decided-unique : {b : Board} {c : Command} {m n : ℕ} {x y : Board} → Decided b c m x → Decided b c n y → (m ≡ n) × (x ≡ y)
-decided-unique = decided-one (λ _. one-board)
+pub decided-unique : {b : Board} {c : Command} {m n : Answer} {x y : Board} → Decided b c m x → Decided b c n y → (m ≡ n) × (x ≡ y)
+decided-unique = decided-one (blames-one (λ a x c d v w. out-unique)) (λ _. one-board)
 
 -- a command that is done leaves no loop, whatever the board was
-pub decided-off-unique : {b : Board} {c : Command} {m n : ℕ} {x y : Board} → DecidedOff b c m x → DecidedOff b c n y → (m ≡ n) × (x ≡ y)
-decided-off-unique d = decided-one
+pub decided-off-unique : {b : Board} {c : Command} {m n : Answer} {x y : Board} → DecidedOff b c m x → DecidedOff b c n y → (m ≡ n) × (x ≡ y)
+decided-off-unique d = decided-one (blames-one (λ a x c d v w. out-by-unique))
     (λ z. right-board (λ l.
     let rows = first-done _ refl (subst (First _) z (d .numbered)) in
     rows .1 .1 .1 .1 .1 .1 .0 (subst (λ (t : Tables). LiveLoops t) (d .done z .tables-are) l))) d
@@ -105,6 +109,17 @@ says-unique v w = test-unique
 pub counts-unique : {In : ℕ → Type 0} {r : ℕ} (v w : Bool × ℕ) → Counts In r v → Counts In r w → v ≡ w
 counts-unique v w f g = ap₂ (λ (p : Bool) (n : ℕ). (p, n)) (test-unique (f .0) (g .0)) (f .1 .2 ∙ same-size (f .1 .0) (g .1 .0) (f .1 .1) (g .1 .1) ∙ sym (g .1 .2))
 
+-- and why not
+pub tells-unique : {In : ℕ → Type 0} (Out : ℕ → ℕ → ℕ → Type 0) {r : ℕ} → ((c d v w : ℕ) → Out r c v → Out r d w → (c ≡ d) × (v ≡ w))
+    → (v w : Bool × ℕ × ℕ × ℕ) → Tells In Out r v → Tells In Out r w → v ≡ w
+tells-unique Out one v w f g =
+    let e = counts-unique _ _ (f .0) (g .0) in
+    let said : v .0 ≡ w .0 = ap (λ (p : Bool × ℕ). p .0) e in
+    let why : (v .2 ≡ w .2) × (v .3 ≡ w .3) = ⊎-elim
+    (λ y. let p = f .1 .yes y in let q = g .1 .yes (sym said ∙ y) in (p .0 ∙ sym (q .0), p .1 ∙ sym (q .1)))
+    (λ n. one _ _ _ _ (f .1 .no n) (g .1 .no (sym said ∙ n))) (true-or-false (v .0)) in
+    λ k. (said k, e k .1, why .0 k, why .1 k)
+
 -- ---- the four questions on a board
 
 module _ (b : Board) where
@@ -114,8 +129,9 @@ module _ (b : Board) where
   pub derives-unique : (x y : ℕ) {m n : ℕ} {p q : Bool} → DerivesAnswer b x y m p → DerivesAnswer b x y n q → (m ≡ n) × (p ≡ q)
   derives-unique x y = answered-unique (λ _. says-unique)
 
-  pub scope-unique : (a r : ℕ) {m n j k : ℕ} {p q : Bool} → ScopeAnswer b a r m p j → ScopeAnswer b a r n q k → (m ≡ n) × _≡_ {A = Bool × ℕ} (p, j) (q, k)
-  scope-unique a r = answered-unique (λ _. counts-unique)
+  pub scope-unique : (a r : ℕ) {m n j k c d v w : ℕ} {p q : Bool} → ScopeAnswer b a r m p j c v → ScopeAnswer b a r n q k d w
+      → (m ≡ n) × _≡_ {A = Bool × ℕ × ℕ × ℕ} (p, j, c, v) (q, k, d, w)
+  scope-unique a r = answered-unique (λ _. tells-unique (OutOfScope (tablesOf b) a) (λ c d v w. out-unique))
 
   pub manages-unique : (r : ℕ) → Sound (tablesOf b) → (x y : Manager) → Manages b r x → Manages b r y → x ≡ y
   manages-unique r sound (Role m) (Role n) h g = ap Role (manager-unique (sound-loopless sound) h g)
@@ -135,8 +151,9 @@ module _ (live : ℕ) where
   pub derives-off-unique : (down : List ℕ) (x y : ℕ) {m n : ℕ} {p q : Bool} → DerivesOff live down x y m p → DerivesOff live down x y n q → (m ≡ n) × (p ≡ q)
   derives-off-unique down x y = answered-unique (λ _. says-unique)
 
-  pub scope-off-unique : (down up : List ℕ) (a r : ℕ) {m n j k : ℕ} {p q : Bool} → ScopeOff live down up a r m p j → ScopeOff live down up a r n q k → (m ≡ n) × _≡_ {A = Bool × ℕ} (p, j) (q, k)
-  scope-off-unique down up a r = answered-unique (λ _. counts-unique)
+  pub scope-off-unique : (down up : List ℕ) (a r : ℕ) {m n j k c d v w : ℕ} {p q : Bool} → ScopeOff live down up a r m p j c v → ScopeOff live down up a r n q k d w
+      → (m ≡ n) × _≡_ {A = Bool × ℕ × ℕ × ℕ} (p, j, c, v) (q, k, d, w)
+  scope-off-unique down up a r = answered-unique (λ _. tells-unique (OutOfScopeBy down up a) (λ c d v w. out-by-unique))
 
   pub manager-off-unique : (manager : List ℕ) (r : ℕ) {m n : ℕ} {x y : Manager} → ManagerOff live manager r m x → ManagerOff live manager r n y → (m ≡ n) × (x ≡ y)
   manager-off-unique manager r = answered-unique (λ _ x y h g. h ∙ sym g)

@@ -2,7 +2,7 @@
 use mathlib.Core.Path.{_≡_, refl, sym, ap, _∙_, subst}
 use mathlib.Core.Bool.{Bool, true, false, not, _&&_, _||_, or-false, or-comm}
 use mathlib.Core.Logic.{_⊎_, inl, inr, ⊎-elim, _≢_, _↔_, Iff·trans, Iff·rfl}
-use mathlib.Core.List.{List, _∷_, _++_}
+use mathlib.Core.List.{List, _++_}
 use Prim.Native.Nat.{ℕ, _^_, _≤_, _<_}
 use native.Mathlib.Decide.{ℕ-discrete}
 use native.Mathlib.Omega.{arith}
@@ -21,12 +21,14 @@ use Rattle.hierarchy.proofs.Derive.{edge-entry}
 use Rattle.hierarchy.proofs.FirstLaws.{hit, pass, none}
 use Rattle.hierarchy.proofs.ViewLaws.{admin-by}
 use Rattle.board.specs.Boards.{tablesOf, KeepsRight, SoundBoard}
-use Rattle.board.specs.Commands.{Malformed, asSenior, asJunior, needed, Missing, edgeKind, PartsStand, Standing, Lacking, scoped, strictly, InScope, Outside, before, DecidedBy, Decided}
+use Rattle.board.specs.Commands.{Malformed, asSenior, asJunior, needed, Missing, edgeKind, PartsStand, Standing, Lacking, scoped, strictly, InScope, Outside, plain, Names, unscoped, byScope, before, DecidedBy, Decided}
 use Rattle.board.specs.Commands.{Malformed.no-code, Malformed.no-actor, Malformed.no-role, Malformed.no-junior, Malformed.no-kind, Standing.role, Standing.edge, Lacking.no-part, Lacking.no-edge}
 use Rattle.board.specs.Effects.{after}
 use Rattle.board.specs.Looks.{OutsideBy, late}
 use Rattle.board.specs.declared.Board.{Board}
 use Rattle.board.specs.declared.Command.{Command}
+use Rattle.board.specs.declared.commands.Answer.{Answer}
+use Rattle.board.proofs.Blaming.{names-plain, names-six}
 use Rattle.board.proofs.Rules.{stable, first-done, first-refused, first-next}
 
 pub same-test : {P : Type 0} {p q : Bool} → p ≡ q → (q ≡ true) ↔ P → (p ≡ true) ↔ P
@@ -50,10 +52,10 @@ ranged c l h a r j k (no-kind n (inr w)) = let q = k n in omega arith
 
 -- and the other way round
 module _ (c : Command) (formed : Malformed c → ⊥) where
-  code-low : 1 ≤ c .code
+  pub code-low : 1 ≤ c .code
   code-low = ⊎-elim (λ l. absurd (formed (no-code (inl l)))) (λ g. g) (lt-or-ge (c .code) 1)
 
-  actor-lt : c .actor < 64
+  pub actor-lt : c .actor < 64
   actor-lt = ⊎-elim (λ l. l) (λ g. absurd (formed (no-actor g))) (lt-or-ge (c .actor) 64)
 
   pub role-lt : c .role < 64
@@ -221,62 +223,107 @@ module _ (b : Tables) (c : Command) where
   pub outside-row : {down up : List ℕ} → AreViews b down up → OutsideBy down up c ↔ Outside b c
   outside-row v = (λ o. record { adds = o .adds; outside = λ a. o .outside (admin-by v .1 a) }, λ o. record { adds = o .adds; outside = λ a. o .outside (admin-by v .0 a) })
 
--- ---- the first half of the table
+-- ---- the rows on the board handed in
 
-module _ (In : ℕ → ℕ → Type 0) (b : Tables) (c : Command) where
-  pub refused-2 : Malformed c → First (before In b c) 2
+module _ (b : Tables) (c : Command) where
+  pub refused-2 : Malformed c → First (unscoped b c) 2
   refused-2 m = hit _ _ _ m
 
   module _ (formed : Malformed c → ⊥) where
-    pub refused-3 : Missing b c → First (before In b c) 3
+    pub refused-3 : Missing b c → First (unscoped b c) 3
     refused-3 m = pass _ _ _ _ formed (hit _ _ _ m)
 
     module _ (present : Missing b c → ⊥) where
-      pub refused-4 : Standing b c → First (before In b c) 4
+      pub refused-4 : Standing b c → First (unscoped b c) 4
       refused-4 s = pass _ _ _ _ formed (pass _ _ _ _ present (hit _ _ _ s))
 
       module _ (free : Standing b c → ⊥) where
-        pub refused-5 : Lacking b c → First (before In b c) 5
+        pub refused-5 : Lacking b c → First (unscoped b c) 5
         refused-5 n = pass _ _ _ _ formed (pass _ _ _ _ present (pass _ _ _ _ free (hit _ _ _ n)))
 
-        module _ (there : Lacking b c → ⊥) where
-          past-5 : (n : ℕ) (rest : List (ℕ × Type 0)) → First rest n → First ((2, Malformed c) ∷ (3, Missing b c) ∷ (4, Standing b c) ∷ (5, Lacking b c) ∷ rest) n
-          past-5 n rest f = pass _ _ _ _ formed (pass _ _ _ _ present (pass _ _ _ _ free (pass _ _ rest _ there f)))
+        pub refused-not : (Lacking b c → ⊥) → First (unscoped b c) 0
+        refused-not there = pass _ _ _ _ formed (pass _ _ _ _ present (pass _ _ _ _ free (pass _ _ _ _ there none)))
 
-          pub refused-6 : (InScope In c → ⊥) → First (before In b c) 6
-          refused-6 n = past-5 _ _ (hit _ _ _ n)
+-- row 6, with whom it names
+module _ (In : ℕ → ℕ → Type 0) (Blame : Answer → Type 0) (c : Command) {m : Answer} where
+  pub scope-holds : InScope In c → m ≡ plain 0 → First (byScope In c) (m .number) × Names Blame m
+  scope-holds s e = subst (λ (k : Answer). First (byScope In c) (k .number) × Names Blame k) (sym e) (pass _ _ _ _ (λ k. k s) none, names-plain 0 (λ q. omega arith))
 
-          pub refused-not : InScope In c → First (before In b c) 0
-          refused-not s = past-5 _ _ (pass _ _ _ _ (λ k. k s) none)
+  pub scope-fails : (InScope In c → ⊥) → (m .number ≡ 6) × Blame m → First (byScope In c) (m .number) × Names Blame m
+  scope-fails n q = (subst (First (byScope In c)) (sym (q .0)) (hit _ _ _ n), names-six (q .0) (q .1))
+
+-- the number of a refusal before scope is none of scope's
+unscoped-other : (b : Tables) (c : Command) (n : ℕ) → First (unscoped b c) n → n ≢ 6
+unfolding First
+unscoped-other b c n (inl p) e = omega (arith, p .1)
+unscoped-other b c n (inr (_, inl p)) e = omega (arith, p .1)
+unscoped-other b c n (inr (_, inr (_, inl p))) e = omega (arith, p .1)
+unscoped-other b c n (inr (_, inr (_, inr (_, inl p)))) e = omega (arith, p .1)
+unscoped-other b c n (inr (_, inr (_, inr (_, inr p)))) e = omega (arith, p)
 
 -- ---- the two halves in a row
 
-pub decided-unsound : (b : Board) (c : Command) → (SoundBoard b → ⊥) → Decided b c 1 b
-decided-unsound b c n = record { numbered = hit _ _ _ n; done = λ z. absurd (omega (arith, z)); refused = λ _. refl }
+pub decided-unsound : (b : Board) (c : Command) {m : Answer} → m ≡ plain 1 → (SoundBoard b → ⊥) → Decided b c m b
+decided-unsound b c e n =
+    subst (λ (m : Answer). Decided b c m b) (sym e) (record { numbered = hit _ _ _ n; named = names-plain 1 (λ e. omega arith); done = λ z. absurd (omega (arith, z)); refused = λ _. refl })
 
-module _ (In : ℕ → ℕ → Type 0) (b : Board) (c : Command) where
+module _ (In : ℕ → ℕ → Type 0) (Blame : Answer → Type 0) (b : Board) (c : Command) where
   abbrev rows : List (ℕ × Type 0)
   rows = before In (tablesOf b) c
 
-  abbrev Outcome : ℕ → Board → Type 0
-  Outcome = DecidedBy (rows ++ late (after (tablesOf b) c) c) KeepsRight b c
+  abbrev Outcome : Answer → Board → Type 0
+  Outcome = DecidedBy (rows ++ late (after (tablesOf b) c) c) Blame KeepsRight b c
+
+  abbrev Refused : Answer → Type 0
+  Refused m = (x : Board) → x ≡ b → Outcome m x
 
   -- a refusal gives the very board back
-  pub decided-early : (n : ℕ) → n ≢ 0 → First rows n → (x : Board) → x ≡ b → Outcome n x
-  decided-early n h f x e = record { numbered = first-refused rows _ n h f; done = λ z. absurd (h z); refused = λ _. e }
+  pub decided-early : (n : ℕ) → n ≢ 0 → First (unscoped (tablesOf b) c) n → {m : Answer} → m ≡ plain n → Refused m
+  decided-early n h f {m} is x e = subst (λ (m : Answer). Outcome m x) (sym is) (record {
+    numbered = first-refused rows _ n h (first-refused (unscoped (tablesOf b) c) (byScope In c) n h f);
+    named = names-plain n (unscoped-other (tablesOf b) c n f);
+    done = λ z. absurd (h z);
+    refused = λ _. e;
+  })
 
-  module _ (m : ℕ) (early : m ≡ 0) (passed : First rows m) (t : Tables) (is : t ≡ after (tablesOf b) c) where
+  module _ (k : ℕ) (short : k ≡ 0) (fine : First (unscoped (tablesOf b) c) k) where
+    past-unscoped : (n : ℕ) → First (byScope In c) n → First rows n
+    past-unscoped n f = first-next (unscoped (tablesOf b) c) (byScope In c) n (first-done (unscoped (tablesOf b) c) refl (subst (First (unscoped (tablesOf b) c)) short fine)) f
+
+    pub decided-barred : {m : Answer} → m .number ≢ 0 → First (byScope In c) (m .number) × Names Blame m → Refused m
+    decided-barred {m} h f x e = record {
+      numbered = first-refused rows _ (m .number) h (past-unscoped (m .number) (f .0));
+      named = f .1;
+      done = λ z. absurd (h z);
+      refused = λ _. e;
+    }
+
+  module _ (k : ℕ) (short : k ≡ 0) (fine : First (unscoped (tablesOf b) c) k) (m : ℕ) (early : m ≡ 0) (scoped : First (byScope In c) m) (t : Tables) (is : t ≡ after (tablesOf b) c) where
+    passed : First rows m
+    passed = past-unscoped k short fine m scoped
+
     numbered : (n : ℕ) → First (late t c) n → First (rows ++ late (after (tablesOf b) c) c) n
     numbered n f =
         first-next rows (late (after (tablesOf b) c) c) n (first-done rows refl (subst (First rows) early passed))
         (subst (λ (t : Tables). First (late t c) n) is f)
 
-    pub decided-late : (n : ℕ) → n ≢ 0 → First (late t c) n → (x : Board) → x ≡ b → Outcome n x
-    decided-late n h f x e = record { numbered = numbered n f; done = λ z. absurd (h z); refused = λ _. e }
+    -- none of the rows afterwards is a 6
+    late-other : (n : ℕ) → First (late t c) n → n ≢ 6
+    unfolding First
+    late-other n (inl p) e = omega (arith, p .1)
+    late-other n (inr (_, inl p)) e = omega (arith, p .1)
+    late-other n (inr (_, inr (_, inl p))) e = omega (arith, p .1)
+    late-other n (inr (_, inr (_, inr (_, inl p)))) e = omega (arith, p .1)
+    late-other n (inr (_, inr (_, inr (_, inr p)))) e = omega (arith, p .1)
 
-    pub decided-done : (n : ℕ) → n ≡ 0 → First (late t c) n → (x : Board) → tablesOf x ≡ t → KeepsRight x → Outcome 0 x
-    decided-done n z f x e right = record {
+    pub decided-late : (n : ℕ) → n ≢ 0 → First (late t c) n → {m : Answer} → m ≡ plain n → Refused m
+    decided-late n h f is x e =
+        subst (λ (m : Answer). Outcome m x) (sym is) (record { numbered = numbered n f; named = names-plain n (late-other n f); done = λ z. absurd (h z); refused = λ _. e })
+
+    pub decided-done : (n : ℕ) → n ≡ 0 → First (late t c) n → {m : Answer} → m ≡ plain 0 → (x : Board) → tablesOf x ≡ t → KeepsRight x → Outcome m x
+    decided-done n z f plainly x e right = subst (λ (m : Answer). Outcome m x) (sym plainly) (record {
       numbered = subst (First (rows ++ late (after (tablesOf b) c) c)) z (numbered n f);
+      named = names-plain 0 (λ q. omega arith);
       done = λ _. record { tables-are = e ∙ is; fit = right };
       refused = λ h. absurd (h refl);
-    }
+    })

@@ -1,15 +1,15 @@
--- The machine values of a board, of a command and of an outcome, for the proofs by hand.
+-- The machine values of a board, of a command and of an answer, for the proofs by hand.
 use mir.Val.{Val}
 use denote.Struct.Laws.{val}
 use Rattle.board.specs.declared.Board.{Board}
 use Rattle.board.specs.declared.Command.{Command}
-use Rattle.board.specs.declared.commands.Outcome.{Outcome}
+use Rattle.board.specs.declared.commands.Answer.{Answer}
 use Rattle.board.proofs.Board as B
 use Rattle.board.proofs.Board.Laws as B′
 use Rattle.board.proofs.Command as Cm
 use Rattle.board.proofs.Command.Laws as Cm′
-use Rattle.board.proofs.commands.Outcome as O
-use Rattle.board.proofs.commands.Outcome.Laws as O′
+use Rattle.board.proofs.commands.Answer as An
+use Rattle.board.proofs.commands.Answer.Laws as An′
 
 abbrev pub ofBoard : Board → Val
 ofBoard = val B.the-type B′.the-laws
@@ -17,5 +17,5 @@ ofBoard = val B.the-type B′.the-laws
 abbrev pub ofCommand : Command → Val
 ofCommand = val Cm.the-type Cm′.the-laws
 
-abbrev pub ofOutcome : Outcome → Val
-ofOutcome = val O.the-type O′.the-laws
+abbrev pub ofAnswer : Answer → Val
+ofAnswer = val An.the-type An′.the-laws

@@ -18,6 +18,7 @@ use Rattle.hierarchy.proofs.Order.{joined-inward, joined-loops}
 use Rattle.hierarchy.proofs.Admin.{admin-live}
 use Rattle.hierarchy.proofs.ClimbLaws.{climbs}
 use Rattle.hierarchy.proofs.ViewLaws.{scope-by}
+use Rattle.hierarchy.proofs.Bars.{out-by}
 use Rattle.hierarchy.proofs.ManagerLaws.{steps-up}
 use Rattle.board.specs.Boards.{tablesOf, SoundBoard}
 use Rattle.board.specs.Effects.{after}
@@ -27,11 +28,13 @@ use Rattle.board.specs.Questions.{refusals as questionRefusals}
 use Rattle.board.specs.Looks.{Torn, late, managerFrom, DecidedOff, DerivesOff, ScopeOff, ManagerOff, StepsOff}
 use Rattle.board.specs.declared.Board.{Board}
 use Rattle.board.specs.declared.Command.{Command}
+use Rattle.board.specs.declared.commands.Answer.{Answer}
 use Rattle.board.specs.declared.questions.Manager.{Manager}
 use Rattle.board.specs.declared.questions.Manager.the-variants.{Role, Nobody}
 use Rattle.board.proofs.Rules.{Passed, first-alike, first-without}
 use Rattle.board.proofs.Asking.{asked, answer-as}
 use Rattle.board.proofs.Trying.{in-scope-alike}
+use Rattle.board.proofs.Blaming.{blames-alike}
 use Rattle.board.proofs.SoundAfter.{joined-after, sound-after}
 
 module _ {b : Board} (s : SoundBoard b) where
@@ -56,9 +59,10 @@ module _ {b : Board} (s : SoundBoard b) where
 
   -- ---- a command
 
-  pub decided-viewed : {c : Command} {n : ℕ} {board : Board} → DecidedOff b c n board → Decided b c n board
-  decided-viewed {c} {n} {board} d = record {
+  pub decided-viewed : {c : Command} {m : Answer} {board : Board} → DecidedOff b c m board → Decided b c m board
+  decided-viewed {c} {m} {board} d = record {
     numbered = pass _ _ _ _ (λ k. k s) rows;
+    named = record { six = λ e. blames-alike c (scope-kept (c .actor)) (λ x k w. out-by (s .right .views) .0) (d .named .six e); other = d .named .other };
     done = λ z. let m = d .done z in record {
       tables-are = m .tables-are;
       fit = record { sound = subst Sound (sym (m .tables-are)) (sound-after (tablesOf b) c (s .sound) (subst (First (onTables (tablesOf b) c)) z rows)); right = m .fit };
@@ -70,6 +74,9 @@ module _ {b : Board} (s : SoundBoard b) where
       scope-row =
           let e = in-scope-alike c (λ x. scope-kept (c .actor) x) in
           (λ h k. h (e .1 k), λ h k. h (e .0 k))
+
+      n : ℕ
+      n = m .number
 
       -- a sound board's entries still join live roles once the rows before are passed
       whole : Passed (before (ScopeBy (b .derives) (b .derivers)) (tablesOf b) c) → First (late (after (tablesOf b) c) c) n → First (afterwards (after (tablesOf b) c) c) n
@@ -94,9 +101,12 @@ module _ {b : Board} (s : SoundBoard b) where
   pub derives-viewed : (x y : ℕ) {n : ℕ} {said : Bool} → DerivesOff (b .live) (b .derives) x y n said → DerivesAnswer b x y n said
   derives-viewed x y a = answer-as (past x y _) (λ _ h. Iff·trans h (derives-kept x y)) a
 
-  pub scope-viewed : (a r : ℕ) {n count : ℕ} {said : Bool} → ScopeOff (b .live) (b .derives) (b .derivers) a r n said count → ScopeAnswer b a r n said count
+  pub scope-viewed : (a r : ℕ) {n count cause way : ℕ} {said : Bool} → ScopeOff (b .live) (b .derives) (b .derivers) a r n said count cause way → ScopeAnswer b a r n said count cause way
   scope-viewed a r h = answer-as (past a r _)
-      (λ _ h. (Iff·trans (h .0) (scope-kept a r), (h .1 .0, λ x. Iff·trans (h .1 .1 x) (scope-kept a x), h .1 .2))) h
+      (λ _ h. let k = h .0 in (
+        (Iff·trans (k .0) (scope-kept a r), (k .1 .0, λ x. Iff·trans (k .1 .1 x) (scope-kept a x), k .1 .2)),
+        record { yes = h .1 .yes; no = λ e. out-by (s .right .views) .0 (h .1 .no e) },
+      )) h
 
   -- a manager that is kept, as an answer
   manages : (r : ℕ) (p : Bool) → ltb (managerAt (b .manager) r) 64 ≡ p → Manages b r (cond p (Role (managerAt (b .manager) r)) Nobody)

@@ -1,24 +1,33 @@
--- Document 01's table of refusals for a command, row by row, with rows 2, 4 and 5 as request 2 has them, and what a command answers.
+-- Document 01's table of refusals for a command, row by row, with rows 2, 4 and 5 as request 2 has them, and what a command answers: beside
+-- the number, by request 3, who offends and why.
 use mathlib.Core.Path.{_≡_}
 use mathlib.Core.Bool.{Bool, true, false, _&&_, _||_}
 use mathlib.Core.Logic.{_⊎_, _≢_}
 use mathlib.Core.List.{List, [], _∷_, _++_}
-use Prim.Native.Nat.{ℕ, _≤_, _<_}
+use Prim.Native.Nat.{ℕ, _^_, _≤_, _<_}
 use lib.Dec.{eqb, leb}
 use Rattle.sets.specs.Sets.{bit, _isIn_}
 use Rattle.hierarchy.specs.Tables.{Tables, row, kind, hasI, hasA}
-use Rattle.hierarchy.specs.Words.{Scope, Administrator, Loops, Managed}
+use Rattle.hierarchy.specs.Words.{Scope, OutOfScope, Administrator, Loops, Managed}
 use Rattle.hierarchy.specs.First.{First}
 use Rattle.board.specs.Boards.{tablesOf, SoundBoard}
 use Rattle.board.specs.Effects.{after}
 use Rattle.board.specs.declared.Board.{Board}
 use Rattle.board.specs.declared.Command.{Command}
+use Rattle.board.specs.declared.commands.Answer.{Answer}
 
 -- ---- the fields that a command uses
 
 -- commands 3, 4 and 5 name a senior (in `role`), a junior and a kind
 abbrev pub NamesEdge : Command → Type 0
 NamesEdge c = 3 ≤ c .code
+
+-- no set that it names has a member above 63: its type says so of each command of the code
+pub record Fits (c : Command) : Type 0 where
+  pub a-seniors : c .«a_seniors» < 2 ^ 64
+  pub i-seniors : c .«i_seniors» < 2 ^ 64
+  pub a-juniors : c .«a_juniors» < 2 ^ 64
+  pub i-juniors : c .«i_juniors» < 2 ^ 64
 
 -- ---- row 2: a number out of its range, in a field that is used
 
@@ -88,6 +97,58 @@ pub record InScope (In : ℕ → ℕ → Type 0) (c : Command) : Type 0 where
   pub scope : (x : ℕ) → scoped c x ≡ true → In (c .actor) x
   pub strict : (x : ℕ) → strictly c x ≡ true → In (c .actor) x × (c .actor ≢ x)
 
+-- ---- request 3: who offends, and why
+
+-- The scope conditions of a command in the order they are looked through: of whom, and whether strict scope is asked. Nobody breaks one
+-- exactly where `InScope` holds (`Rattle.board.proofs.Offenders`).
+abbrev pub conditions : Command → List ((ℕ → Bool) × Bool)
+conditions c =
+    (λ x. leb 2 (c .code) && eqb x (c .role), eqb (c .code) 2)
+    ∷ (λ x. leb 3 (c .code) && eqb x (c .junior), false)
+    ∷ (λ x. eqb (c .code) 1 && bit (c .«a_seniors») x, false)
+    ∷ (λ x. eqb (c .code) 1 && bit (c .«i_seniors») x, false)
+    ∷ (λ x. eqb (c .code) 1 && bit (c .«a_juniors») x, true)
+    ∷ (λ x. eqb (c .code) 1 && bit (c .«i_juniors») x, true)
+    ∷ []
+
+-- as is asked of x: in the scope of a, and where strict scope is asked not a itself
+abbrev pub AsAsked : (ℕ → ℕ → Type 0) → ℕ → Bool → ℕ → Type 0
+AsAsked In a strict x = In a x × (strict ≡ true → a ≢ x)
+
+-- x breaks a condition: it is one of those, and not as is asked
+pub record Breaks (In : ℕ → ℕ → Type 0) (a : ℕ) (those : ℕ → Bool) (strict : Bool) (x : ℕ) : Type 0 where
+  pub among : those x ≡ true
+  pub wrong : AsAsked In a strict x → ⊥
+
+-- `Offends In a conditions x strict`: x is the first to offend, the lowest who breaks the first condition that is broken, and `strict` is
+-- what that one asks
+pub data Offends (In : ℕ → ℕ → Type 0) (a : ℕ) : List ((ℕ → Bool) × Bool) → ℕ → Bool → Type 0 where
+  here : {those : ℕ → Bool} {strict : Bool} {rest : List ((ℕ → Bool) × Bool)} {x : ℕ}
+      → Breaks In a those strict x → ((y : ℕ) → Breaks In a those strict y → x ≤ y) → Offends In a ((those, strict) ∷ rest) x strict
+  later : {those : ℕ → Bool} {asked strict : Bool} {rest : List ((ℕ → Bool) × Bool)} {x : ℕ}
+      → ((y : ℕ) → Breaks In a those asked y → ⊥) → Offends In a rest x strict → Offends In a ((those, asked) ∷ rest) x strict
+
+-- Why x offends, with the role in the way: `Out` has the causes 1 and 2 of being out of scope; 3, where strict scope is asked, is that x is
+-- the actor itself, which goes before the others, and nobody is in the way.
+pub data Because (Out : ℕ → ℕ → ℕ → ℕ → Type 0) (a x : ℕ) : Bool → ℕ → ℕ → Type 0 where
+  out : {strict : Bool} {cause way : ℕ} → (strict ≡ true → a ≢ x) → Out a x cause way → Because Out a x strict cause way
+  itself : a ≡ x → Because Out a x true 3 0
+
+-- what a 6 says of the command
+pub record Blames (In : ℕ → ℕ → Type 0) (Out : ℕ → ℕ → ℕ → ℕ → Type 0) (c : Command) (answer : Answer) : Type 0 where
+  pub strict : Bool
+  pub offends : Offends In (c .actor) (conditions c) (answer .who) strict
+  pub because : Because Out (c .actor) (answer .who) strict (answer .cause) (answer .way)
+
+-- a number alone, with nobody named
+abbrev pub plain : ℕ → Answer
+plain number = record { number = number; who = 0; cause = 0; way = 0 }
+
+-- a 6 names who offends and why, all other answers nobody
+pub record Names (Blame : Answer → Type 0) (answer : Answer) : Type 0 where
+  pub six : answer .number ≡ 6 → Blame answer
+  pub other : answer .number ≢ 6 → answer ≡ plain (answer .number)
+
 -- ---- row 8, on the tables afterwards: the new role is outside the actor's strict scope
 
 pub record Outside (t : Tables) (c : Command) : Type 0 where
@@ -96,15 +157,21 @@ pub record Outside (t : Tables) (c : Command) : Type 0 where
 
 -- ---- the table of refusals, in the order they are tried
 
--- on the tables handed in, by what scope means there
-abbrev pub before : (ℕ → ℕ → Type 0) → Tables → Command → List (ℕ × Type 0)
-before In t c =
+-- on the tables handed in, short of scope
+abbrev pub unscoped : Tables → Command → List (ℕ × Type 0)
+unscoped t c =
     (2, Malformed c)
     ∷ (3, Missing t c)
     ∷ (4, Standing t c)
     ∷ (5, Lacking t c)
-    ∷ (6, (InScope In c → ⊥))
     ∷ []
+
+-- by what scope means there
+abbrev pub byScope : (ℕ → ℕ → Type 0) → Command → List (ℕ × Type 0)
+byScope In c = (6, (InScope In c → ⊥)) ∷ []
+
+abbrev pub before : (ℕ → ℕ → Type 0) → Tables → Command → List (ℕ × Type 0)
+before In t c = unscoped t c ++ byScope In c
 
 -- on the tables that the command would leave: past loops, and all
 abbrev pub pastLoops : Tables → Command → List (ℕ × Type 0)
@@ -124,17 +191,18 @@ onTables t c = before (Scope t) t c ++ afterwards (after t c) c
 abbrev pub refusals : Board → Command → List (ℕ × Type 0)
 refusals b c = (1, (SoundBoard b → ⊥)) ∷ onTables (tablesOf b) c
 
--- ---- what a command answers: the number by the table; done makes the change, a refusal leaves the very board
+-- ---- what a command answers: the number by the table, and who offends; done makes the change, a refusal leaves the very board
 
 -- The change: the tables are those afterwards, and the board is as a board has to be, which settles the values it keeps.
 pub record Made (Fit : Board → Type 0) (b : Board) (c : Command) (board : Board) : Type 0 where
   pub tables-are : tablesOf board ≡ after (tablesOf b) c
   pub fit : Fit board
 
-pub record DecidedBy (rules : List (ℕ × Type 0)) (Fit : Board → Type 0) (b : Board) (c : Command) (number : ℕ) (board : Board) : Type 0 where
-  pub numbered : First rules number
-  pub done : number ≡ 0 → Made Fit b c board
-  pub refused : number ≢ 0 → board ≡ b
+pub record DecidedBy (rules : List (ℕ × Type 0)) (Blame : Answer → Type 0) (Fit : Board → Type 0) (b : Board) (c : Command) (answer : Answer) (board : Board) : Type 0 where
+  pub numbered : First rules (answer .number)
+  pub named : Names Blame answer
+  pub done : answer .number ≡ 0 → Made Fit b c board
+  pub refused : answer .number ≢ 0 → board ≡ b
 
-abbrev pub Decided : Board → Command → ℕ → Board → Type 0
-Decided b c = DecidedBy (refusals b c) SoundBoard b c
+abbrev pub Decided : Board → Command → Answer → Board → Type 0
+Decided b c = DecidedBy (refusals b c) (Blames (Scope (tablesOf b)) (OutOfScope (tablesOf b)) c) SoundBoard b c

@@ -9,13 +9,14 @@ use lib.Dec.{ltb}
 use Rattle.sets.specs.Sets.{_isIn_}
 use Rattle.hierarchy.specs.Tables.{Tables, row}
 use Rattle.hierarchy.specs.First.{First}
-use Rattle.hierarchy.specs.Views.{InOrder, Inward, LiveLoops, ScopeBy, AdminBy, RightValues, managerAt, stepsUp}
+use Rattle.hierarchy.specs.Views.{InOrder, Inward, LiveLoops, ScopeBy, OutOfScopeBy, AdminBy, RightValues, managerAt, stepsUp}
 use Rattle.board.specs.Boards.{tablesOf, KeepsRight}
 use Rattle.board.specs.Effects.{after}
-use Rattle.board.specs.Commands.{before, pastLoops, DecidedBy}
-use Rattle.board.specs.Questions.{misnamed, Says, Counts, Answered}
+use Rattle.board.specs.Commands.{before, pastLoops, Blames, DecidedBy}
+use Rattle.board.specs.Questions.{misnamed, Says, Tells, Answered}
 use Rattle.board.specs.declared.Board.{Board}
 use Rattle.board.specs.declared.Command.{Command}
+use Rattle.board.specs.declared.commands.Answer.{Answer}
 use Rattle.board.specs.declared.questions.Manager.{Manager}
 use Rattle.board.specs.declared.questions.Manager.the-variants.{Role, Nobody}
 
@@ -45,16 +46,22 @@ pub record LateBy (t : Tables) (c : Command) (number : ℕ) (derives derivers ma
   pub numbered : First (late t c) number
   pub right : number ≡ 0 → RightValues t derives derivers manager
 
-abbrev pub DecidedOff : Board → Command → ℕ → Board → Type 0
-DecidedOff b c = DecidedBy (before (ScopeBy (b .derives) (b .derivers)) (tablesOf b) c ++ late (after (tablesOf b) c) c) KeepsRight b c
+-- who offends and why, read off the two tables
+abbrev pub BlamesBy : List ℕ → List ℕ → Command → Answer → Type 0
+BlamesBy down up = Blames (ScopeBy down up) (OutOfScopeBy down up)
+
+abbrev pub DecidedOff : Board → Command → Answer → Board → Type 0
+DecidedOff b c =
+    DecidedBy (before (ScopeBy (b .derives) (b .derivers)) (tablesOf b) c ++ late (after (tablesOf b) c) c) (BlamesBy (b .derives) (b .derivers) c) KeepsRight b c
 
 -- ---- the questions: their rows 2 and 3, and the value read off what is kept
 
 abbrev pub DerivesOff : ℕ → List ℕ → ℕ → ℕ → ℕ → Bool → Type 0
 DerivesOff live down x y = Answered (misnamed live x y) (Says (y isIn row down x)) false
 
-abbrev pub ScopeOff : ℕ → List ℕ → List ℕ → ℕ → ℕ → ℕ → Bool → ℕ → Type 0
-ScopeOff live down up a r number said count = Answered (misnamed live a r) (Counts (ScopeBy down up a) r) (false, 0) number (said, count)
+abbrev pub ScopeOff : ℕ → List ℕ → List ℕ → ℕ → ℕ → ℕ → Bool → ℕ → ℕ → ℕ → Type 0
+ScopeOff live down up a r number said count cause way =
+    Answered (misnamed live a r) (Tells (ScopeBy down up a) (OutOfScopeBy down up a) r) (false, 0, 0, 0) number (said, count, cause, way)
 
 -- a number above 63 is no manager
 unfoldable pub managerFrom : ℕ → Manager

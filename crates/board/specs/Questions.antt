@@ -1,4 +1,5 @@
--- Document 01's four questions: refusals 1, 2 and 3 in this order, and with a refusal zero, no or none.
+-- Document 01's four questions: refusals 1, 2 and 3 in this order, and with a refusal zero, no or none; by request 3 a no
+-- on scope that isn't a refusal says why.
 use mathlib.Core.Path.{_≡_}
 use mathlib.Core.Bool.{Bool, true, false}
 use mathlib.Core.Logic.{_⊎_, _≢_, _↔_}
@@ -6,7 +7,7 @@ use mathlib.Core.List.{List, [], _∷_}
 use Prim.Native.Nat.{ℕ, _<_}
 use lib.Count.{ones}
 use Rattle.sets.specs.Sets.{_isIn_}
-use Rattle.hierarchy.specs.Words.{Derives, Scope, LineManager, Climb}
+use Rattle.hierarchy.specs.Words.{Derives, Scope, OutOfScope, LineManager, Climb}
 use Rattle.hierarchy.specs.First.{First}
 use Rattle.board.specs.Boards.{tablesOf, SoundBoard}
 use Rattle.board.specs.declared.Board.{Board}
@@ -37,13 +38,22 @@ Says P said = (said ≡ true) ↔ P
 abbrev pub Counts : (ℕ → Type 0) → ℕ → Bool × ℕ → Type 0
 Counts In r said = Says (In r) (said .0) × ((set : ℕ) × ((x : ℕ) → (x isIn set) ↔ In x) × (said .1 ≡ ones set))
 
+-- beside a yes nothing, beside a no its cause and the role in the way
+pub record Reasons (Out : ℕ → ℕ → Type 0) (said : Bool) (cause way : ℕ) : Type 0 where
+  pub yes : said ≡ true → (cause ≡ 0) × (way ≡ 0)
+  pub no : said ≡ false → Out cause way
+
+abbrev pub Tells : (ℕ → Type 0) → (ℕ → ℕ → ℕ → Type 0) → ℕ → Bool × ℕ × ℕ × ℕ → Type 0
+Tells In Out r said = Counts In r (said .0, said .1) × Reasons (Out r) (said .0) (said .2) (said .3)
+
 -- does x derive y
 abbrev pub DerivesAnswer : Board → ℕ → ℕ → ℕ → Bool → Type 0
 DerivesAnswer b x y = Answered (refusals b x y) (Says (Derives (tablesOf b) x y)) false
 
--- is r in the scope of a; the count is of all live roles in that scope
-abbrev pub ScopeAnswer : Board → ℕ → ℕ → ℕ → Bool → ℕ → Type 0
-ScopeAnswer b a r number said count = Answered (refusals b a r) (Counts (Scope (tablesOf b) a) r) (false, 0) number (said, count)
+-- is r in the scope of a; the count is of all live roles in that scope; and why not
+abbrev pub ScopeAnswer : Board → ℕ → ℕ → ℕ → Bool → ℕ → ℕ → ℕ → Type 0
+ScopeAnswer b a r number said count cause way =
+    Answered (refusals b a r) (Tells (Scope (tablesOf b) a) (OutOfScope (tablesOf b) a) r) (false, 0, 0, 0) number (said, count, cause, way)
 
 -- the line manager of r as document 01 says it for each case of the answer: a role that is it, or none
 abbrev pub Manages : Board → ℕ → Manager → Type 0

@@ -1,24 +1,25 @@
 // The five commands. `step` decides one: it tries the refusals of document 01 in their order, first on the board it is handed, then
-// on the tables the command would leave, and gives back the number and the board, changed where the number is 0. `decide` is the same
+// on the tables the command would leave, and gives back its answer and the board, changed where the number is 0. `decide` is the same
 // for a caller that has just found the board sound: it takes what the board keeps as it stands there.
 ghost use mathlib.Core.Path.{_≡_};
 ghost use mathlib.Core.Bool.{true, false, not, _&&_, _||_};
-ghost use mathlib.Core.Logic.{_↔_};
-ghost use Prim.Native.Nat.{ℕ};
+ghost use mathlib.Core.Logic.{_↔_, _≢_};
+ghost use Prim.Native.Nat.{ℕ, _<_};
 ghost use lib.Dec.{eqb};
-ghost use Rattle.sets.specs.Sets.{bit, _isIn_};
+ghost use Rattle.sets.specs.Sets.{bit, _isIn_, LowestRole};
 ghost use Rattle.hierarchy.specs.First.{First};
 ghost use Rattle.hierarchy.specs.Tables.{tables, row, IsTable, hasI, hasA};
 ghost use Rattle.hierarchy.specs.Views.{ScopeBy};
 ghost use Rattle.board.specs.Boards.{boardOf};
-ghost use Rattle.board.specs.Looks.{OutOfOrder, OutsideBy, LateBy, DecidedOff};
-ghost use Rattle.board.specs.Commands.{Malformed, needed, scoped, strictly, InScope, before, Decided};
+ghost use Rattle.board.specs.Looks.{OutOfOrder, OutsideBy, LateBy, BlamesBy, DecidedOff};
+ghost use Rattle.board.specs.Commands.{Malformed, needed, scoped, strictly, InScope, conditions, Offends, plain, Names, unscoped, byScope, Decided};
 use crate::Board;
 use crate::Command;
 use crate::checks::sound_of;
 use crate::effects::change;
 use crate::effects::has_part;
 use crate::shape::whole;
+use hierarchy::scopes::bars;
 use hierarchy::scopes::scope;
 use hierarchy::working::work_out;
 use sets::Pick;
@@ -32,10 +33,42 @@ use sets::with;
 use sets::within;
 use sets::without;
 
-// The number, 0 for done, and the board afterwards.
-pub struct Outcome {
+// The number, 0 for done. With 6: the first role that offends, the cause, and with cause 2 the role in the way, which may be role 0, else 0.
+// With any other number all three are 0.
+pub struct Answer {
     pub number: u8,
+    pub who: u8,
+    pub cause: u8,
+    pub way: u8,
+}
+
+impl Answer {
+    // the third cause, where strict scope is asked: the role is the actor itself
+    pub const ITSELF: u8 = 3;
+
+    // A number that names nobody.
+    pub fn plain(number: u8) -> Self
+        ensures { λ r. ⌜ r ≡ plain number ⌝ }
+    {
+        Answer {
+            number,
+            who: 0,
+            cause: 0,
+            way: 0,
+        }
+    }
+}
+
+// The answer, and the board afterwards.
+pub struct Outcome {
+    pub answer: Answer,
     pub board: Board,
+}
+
+// A role that offends, and whether strict scope is asked of it.
+struct Offender {
+    role: usize,
+    strict: bool,
 }
 
 // 2: a number out of its range, in a field that the command uses.
@@ -173,6 +206,95 @@ fn within_scope(scope: u64, c: Command) -> bool
     within(in_strict(c), without(scope, c.actor as usize))
 }
 
+// The lowest of these, of whom the same is asked.
+fn lowest_of(these: u64, strict: bool) -> Offender
+    requires { ⌜ these ≢ 0 ⌝ }
+    ensures { λ r. ⌜ LowestRole these (r .role) × (r .strict ≡ strict) ⌝ }
+{
+    let Pick::Role(role) = lowest(these) else {
+        return Offender { role: 0, strict };
+    };
+    Offender { role, strict }
+}
+
+// Who offends first of those that a new role is to have as seniors and juniors.
+fn offending_member(all: u64, c: Command) -> Offender
+    requires { ⌜ (Malformed c → ⊥) × ((c .code ≡ 1) × (InScope (λ a x. x isIn all) c → ⊥)) ⌝ }
+    ensures { λ r. ⌜ (r .role < 64) × Offends (λ a x. x isIn all) (c .actor) (conditions c) (r .role) (r .strict) ⌝ }
+{
+    let by_a = minus(c.a_seniors, all);
+    if by_a != 0 {
+        return lowest_of(by_a, false);
+    }
+    let by_i = minus(c.i_seniors, all);
+    if by_i != 0 {
+        return lowest_of(by_i, false);
+    }
+    let strict = without(all, c.actor as usize);
+    let under_a = minus(c.a_juniors, strict);
+    if under_a != 0 {
+        return lowest_of(under_a, true);
+    }
+    lowest_of(minus(c.i_juniors, strict), true)
+}
+
+// Who offends first of a role to be removed, or of the ends of an edge.
+fn offending_end(all: u64, c: Command) -> Offender
+    requires { ⌜ (Malformed c → ⊥) × ((c .code ≢ 1) × (InScope (λ a x. x isIn all) c → ⊥)) ⌝ }
+    ensures { λ r. ⌜ (r .role < 64) × Offends (λ a x. x isIn all) (c .actor) (conditions c) (r .role) (r .strict) ⌝ }
+{
+    let role = c.role as usize;
+    let junior = c.junior as usize;
+    if c.code == 2 {
+        return Offender { role, strict: true };
+    }
+    if has(all, role) {
+        return Offender {
+            role: junior,
+            strict: false,
+        };
+    }
+    Offender {
+        role,
+        strict: false,
+    }
+}
+
+// Who offends first. `all` is the actor's scope.
+fn offending(all: u64, c: Command) -> Offender
+    requires { ⌜ (Malformed c → ⊥) × (InScope (λ a x. x isIn all) c → ⊥) ⌝ }
+    ensures { λ r. ⌜ (r .role < 64) × Offends (λ a x. x isIn all) (c .actor) (conditions c) (r .role) (r .strict) ⌝ }
+{
+    if c.code == 1 {
+        return offending_member(all, c);
+    }
+    offending_end(all, c)
+}
+
+// 6: who offends first, and why. `all` is the actor's scope.
+fn blame<'v>(down: &'v [u64; 64], up: &'v [u64; 64], all: u64, c: Command) -> Answer
+    requires { ⌜ (Malformed c → ⊥) × (((x : ℕ) → (x isIn all) ↔ ScopeBy (now down) (now up) (c .actor) x) × (InScope (λ a x. x isIn all) c → ⊥)) ⌝ }
+    ensures { λ r. ⌜ (r .number ≡ 6) × BlamesBy (now (down .entry)) (now (up .entry)) c r ⌝ }
+{
+    let o = offending(all, c);
+    let actor = c.actor as usize;
+    if o.strict && actor == o.role {
+        return Answer {
+            number: 6,
+            who: o.role as u8,
+            cause: Answer::ITSELF,
+            way: 0,
+        };
+    }
+    let b = bars(down, up, actor, o.role);
+    Answer {
+        number: 6,
+        who: o.role as u8,
+        cause: b.cause,
+        way: b.way,
+    }
+}
+
 // 8: the new role is outside the actor's strict scope.
 fn outside<'v>(down: &'v [u64; 64], up: &'v [u64; 64], c: Command) -> bool
     ensures { λ r. ⌜ (r ≡ true) ↔ OutsideBy (now (down .entry)) (now (up .entry)) c ⌝ }
@@ -186,16 +308,9 @@ fn outside<'v>(down: &'v [u64; 64], up: &'v [u64; 64], c: Command) -> bool
     !hierarchy::scopes::in_scope(down, up, c.actor as usize, c.role as usize)
 }
 
-// The refusals on the board handed in, past the first.
-fn refused_before<'t>(
-    live: u64,
-    i: &'t [u64; 64],
-    a: &'t [u64; 64],
-    c: Command,
-    down: &'t [u64; 64],
-    up: &'t [u64; 64],
-) -> u8
-    ensures { λ r. ⌜ First (before (ScopeBy (now (down .entry)) (now (up .entry))) (tables live (now (i .entry)) (now (a .entry))) c) r ⌝ }
+// The refusals on the board handed in, past the first and short of scope.
+fn refused_before<'t>(live: u64, i: &'t [u64; 64], a: &'t [u64; 64], c: Command) -> u8
+    ensures { λ r. ⌜ First (unscoped (tables live (now (i .entry)) (now (a .entry))) c) r ⌝ }
 {
     if malformed(c) {
         return 2;
@@ -211,10 +326,19 @@ fn refused_before<'t>(
     if lacking(c, parts, edge) {
         return 5;
     }
-    if within_scope(scope(down, up, c.actor as usize), c) {
-        return 0;
+    0
+}
+
+// The refusal by scope, with whom it names: who offends is looked for only where somebody does.
+fn refused_by_scope<'v>(down: &'v [u64; 64], up: &'v [u64; 64], c: Command) -> Answer
+    requires { ⌜ (Malformed c → ⊥) ⌝ }
+    ensures { λ r. ⌜ First (byScope (ScopeBy (now (down .entry)) (now (up .entry))) c) (r .number) × Names (BlamesBy (now (down .entry)) (now (up .entry)) c) r ⌝ }
+{
+    let all = scope(down, up, c.actor as usize);
+    if within_scope(all, c) {
+        return Answer::plain(0);
     }
-    6
+    blame(down, up, all, c)
 }
 
 // Why not all live roles settle: 7, some role reaches itself; or 1, a live role has a junior that isn't live, as after no sound board.
@@ -265,12 +389,16 @@ pub fn decide(
     derivers: &mut [u64; 64],
     manager: &mut [u8; 64],
     c: Command,
-) -> u8
+) -> Answer
     ensures { λ r. ⌜ DecidedOff (boardOf (now (live .entry)) (now (i .entry)) (now (a .entry)) (now (derives .entry)) (now (derivers .entry)) (now (manager .entry))) c r (boardOf (now (live .exit)) (now (i .exit)) (now (a .exit)) (now (derives .exit)) (now (derivers .exit)) (now (manager .exit))) ⌝ }
 {
-    let early = refused_before(*live, i, a, c, derives, derivers);
+    let early = refused_before(*live, i, a, c);
     if early != 0 {
-        return early;
+        return Answer::plain(early);
+    }
+    let barred = refused_by_scope(derives, derivers, c);
+    if barred.number != 0 {
+        return barred;
     }
     whole(*i);
     whole(*a);
@@ -290,7 +418,7 @@ pub fn decide(
         &mut managers,
     );
     if late != 0 {
-        return late;
+        return Answer::plain(late);
     }
     *live = new_live;
     *i = new_i;
@@ -298,7 +426,7 @@ pub fn decide(
     *derives = down;
     *derivers = up;
     *manager = managers;
-    0
+    Answer::plain(0)
 }
 
 // One command on the board of these parts, which is looked at as a whole before.
@@ -310,18 +438,18 @@ pub fn settle(
     derivers: &mut [u64; 64],
     manager: &mut [u8; 64],
     c: Command,
-) -> u8
+) -> Answer
     ensures { λ r. ⌜ Decided (boardOf (now (live .entry)) (now (i .entry)) (now (a .entry)) (now (derives .entry)) (now (derivers .entry)) (now (manager .entry))) c r (boardOf (now (live .exit)) (now (i .exit)) (now (a .exit)) (now (derives .exit)) (now (derivers .exit)) (now (manager .exit))) ⌝ }
 {
     if !sound_of(*live, i, a, derives, derivers, manager) {
-        return 1;
+        return Answer::plain(1);
     }
     decide(live, i, a, derives, derivers, manager, c)
 }
 
 // One command on a board by value.
 pub fn step(b: Board, c: Command) -> Outcome
-    ensures { λ r. ⌜ Decided b c (r .number) (r .board) ⌝ }
+    ensures { λ r. ⌜ Decided b c (r .answer) (r .board) ⌝ }
 {
     let mut live = b.live;
     let mut i = b.i;
@@ -329,7 +457,7 @@ pub fn step(b: Board, c: Command) -> Outcome
     let mut derives = b.derives;
     let mut derivers = b.derivers;
     let mut manager = b.manager;
-    let number = settle(
+    let answer = settle(
         &mut live,
         &mut i,
         &mut a,
@@ -346,5 +474,5 @@ pub fn step(b: Board, c: Command) -> Outcome
         derivers,
         manager,
     };
-    Outcome { number, board }
+    Outcome { answer, board }
 }

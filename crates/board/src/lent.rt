@@ -2,20 +2,21 @@
 ghost use Rattle.board.specs.Commands.{Decided};
 use crate::Board;
 use crate::Command;
+use crate::commands::Answer;
 use crate::commands::settle;
 use crate::commands::step;
 
 // Decides, and changes the board where the number is 0; else the board stays as it was.
-pub fn apply(board: &mut Board, c: Command) -> u8
+pub fn apply(board: &mut Board, c: Command) -> Answer
     ensures { λ r. ⌜ Decided (now (board .entry)) c r (now (board .exit)) ⌝ }
 {
     let o = step(*board, c);
     *board = o.board;
-    o.number
+    o.answer
 }
 
 // The same without a copy of the board, which has 2,120 bytes: its fields are lent on.
-pub fn apply_in_place(board: &mut Board, c: Command) -> u8
+pub fn apply_in_place(board: &mut Board, c: Command) -> Answer
     ensures { λ n. ⌜ Decided (now (board .entry)) c n (now (board .exit)) ⌝ }
 {
     settle(

@@ -1,6 +1,6 @@
 // The cooperative's board: its roles and edges, the five commands that change it and the four questions about it.
 //
-// A command is one call, `step`: it checks the board it is handed, decides, and gives back the number and the board, changed where
+// A command is one call, `step`: it checks the board it is handed, decides, and gives back the answer and the board, changed where
 // the number is 0 and as it was where it is not. Nobody has to test anything before.
 ghost use mathlib.Core.Path.{_≡_};
 ghost use Rattle.board.specs.Boards.{foundingBoard};

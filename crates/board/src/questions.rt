@@ -7,6 +7,7 @@ ghost use Rattle.board.specs.Questions.{misnamed, DerivesAnswer, ScopeAn
 use crate::Board;
 use crate::checks::sound_of;
 use crate::kept;
+use hierarchy::scopes::bars;
 use sets::has;
 use sets::size;
 
@@ -21,11 +22,14 @@ pub struct Derived {
     pub yes: bool,
 }
 
-// `count` is of all roles in the scope that was asked about.
+// `count` is of all roles in the scope that was asked about. Beside number 0 a no has its
+// cause, and with cause 2 the role in the way, which may be role 0; else both are 0.
 pub struct Scoped {
     pub number: u8,
     pub yes: bool,
     pub count: u32,
+    pub cause: u8,
+    pub way: u8,
 }
 
 pub struct Managed {
@@ -82,15 +86,17 @@ pub fn derives_by(live: u64, down: &[u64; 64], x: u32, y: u32) -> Derived
     Derived { number, yes }
 }
 
-// Is r in the scope of a, and how many are.
+// Is r in the scope of a, why not, and how many are.
 pub fn scope(b: Board, a: u32, r: u32) -> Scoped
-    ensures { λ y. ⌜ ScopeAnswer b a r (y .number) (y .yes) (y .count) ⌝ }
+    ensures { λ y. ⌜ ScopeAnswer b a r (y .number) (y .yes) (y .count) (y .cause) (y .way) ⌝ }
 {
     if !sound_of(b.live, &b.i, &b.a, &b.derives, &b.derivers, &b.manager) {
         return Scoped {
             number: 1,
             yes: false,
             count: 0,
+            cause: 0,
+            way: 0,
         };
     }
     scope_by(b.live, &b.derives, &b.derivers, a, r)
@@ -98,7 +104,7 @@ pub fn scope(b: Board, a: u32, r: u32) -> Scoped
 
 // The same, off the sets that are kept.
 pub fn scope_by<'v>(live: u64, down: &'v [u64; 64], up: &'v [u64; 64], a: u32, r: u32) -> Scoped
-    ensures { λ y. ⌜ ScopeOff live (now (down .entry)) (now (up .entry)) a r (y .number) (y .yes) (y .count) ⌝ }
+    ensures { λ y. ⌜ ScopeOff live (now (down .entry)) (now (up .entry)) a r (y .number) (y .yes) (y .count) (y .cause) (y .way) ⌝ }
 {
     let number = refused(live, a, r);
     if number != 0 {
@@ -106,12 +112,29 @@ pub fn scope_by<'v>(live: u64, down: &'v [u64; 64], up: &'v [u64; 64], a: u32, r
             number,
             yes: false,
             count: 0,
+            cause: 0,
+            way: 0,
         };
     }
     let all = kept::scope(down, up, a);
-    let yes = has(all, r as usize);
     let count = size(all);
-    Scoped { number, yes, count }
+    if has(all, r as usize) {
+        return Scoped {
+            number,
+            yes: true,
+            count,
+            cause: 0,
+            way: 0,
+        };
+    }
+    let b = bars(down, up, a as usize, r as usize);
+    Scoped {
+        number,
+        yes: false,
+        count,
+        cause: b.cause,
+        way: b.way,
+    }
 }
 
 // The line manager of r.

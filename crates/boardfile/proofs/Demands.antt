@@ -11,24 +11,28 @@ use lib.Count.{ones}
 use lib.ListN.{take, drop}
 use Rattle.sets.specs.Sets.{_isIn_}
 use Rattle.hierarchy.specs.Tables.{Tables, row, Live}
-use Rattle.hierarchy.specs.Words.{Derives, Scope, LineManager, Sound, Climb}
-use Rattle.hierarchy.specs.Views.{ScopeBy, ManagerIs, managerAt, stepsUp}
+use Rattle.hierarchy.specs.Words.{Derives, Scope, OutOfScope, LineManager, Sound, Climb}
+use Rattle.hierarchy.specs.Views.{ScopeBy, OutOfScopeBy, ManagerIs, managerAt, stepsUp}
 use Rattle.hierarchy.specs.First.{First}
+use Rattle.hierarchy.proofs.Bars.{out-by, out-unique, out-not, out-some}
 use Rattle.hierarchy.proofs.ClimbLaws.{Distinct, met}
 use Rattle.hierarchy.proofs.FirstLaws.{first-unique, hit, pass}
 use Rattle.hierarchy.proofs.Theorems.{no-manager, one-manager, one-climb, one-way, climb-distinct, climb-short}
 use Rattle.board.specs.Boards.{tablesOf, foundingBoard, KeepsRight, SoundBoard}
 use Rattle.board.specs.Effects.{after}
-use Rattle.board.specs.Commands.{Malformed, edgeKind, before, afterwards, onTables, Made, Decided}
+use Rattle.board.specs.Commands.{Malformed, Fits, edgeKind, InScope, Blames, plain, before, afterwards, onTables, Made, Decided}
 use Rattle.board.specs.Commands.{refusals as commandRefusals}
 use Rattle.board.specs.EdgeParts.{both, less, NoneStands, TakesBack}
 use Rattle.board.specs.Questions.{DerivesAnswer, ScopeAnswer, ManagerAnswer, StepsAnswer}
 use Rattle.board.specs.Questions.{refusals as questionRefusals}
 use Rattle.board.specs.declared.Board.{Board}
 use Rattle.board.specs.declared.Command.{Command}
+use Rattle.board.specs.declared.commands.Answer.{Answer}
 use Rattle.board.specs.declared.questions.Manager.{Manager}
 use Rattle.board.proofs.Founding.{founding-sound}
 use Rattle.board.proofs.SoundAfter.{idle-change}
+use Rattle.board.proofs.Blaming.{blames-one}
+use Rattle.board.proofs.Offenders.{blamed-where}
 use Rattle.board.proofs.EdgeParts.{kind-added, kind-removed, taken-back}
 use Rattle.board.proofs.TakingBack.{sound-passes, back-granted}
 use Rattle.board.proofs.Trying.{role-lt, junior-lt}
@@ -60,11 +64,11 @@ refused-among t n f z = ⊎-elim (λ e. absurd (z e)) (λ a. a) (first-among t n
 -- ---- demand 1: each call ends with the change made, or with one refusal number of its table, and then all that was lent is as it was
 
 -- a command on a board: 1 to 9
-pub command-ends : {b board : Board} {c : Command} {number : ℕ} → Decided b c number board
-    → ((number ≡ 0) × Made SoundBoard b c board) ⊎ (Among number (commandRefusals b c) × (board ≡ b))
-command-ends {b} {board} {c} {number} d = dite (ℕ-discrete number 0)
+pub command-ends : {b board : Board} {c : Command} {answer : Answer} → Decided b c answer board
+    → ((answer .number ≡ 0) × Made SoundBoard b c board) ⊎ (Among (answer .number) (commandRefusals b c) × (board ≡ b))
+command-ends {b} {board} {c} {answer} d = dite (ℕ-discrete (answer .number) 0)
     (λ e. inl (e, d .done e))
-    (λ n. inr (refused-among (commandRefusals b c) number (d .numbered) n, d .refused n))
+    (λ n. inr (refused-among (commandRefusals b c) (answer .number) (d .numbered) n, d .refused n))
 
 -- a file: with the board it is the file of, or with one of 10, 11, 7, 9 and the founding board
 pub file-ends : {f : List ℕ} {board : Board} {number : ℕ} → ReadAnswer f number board
@@ -94,10 +98,10 @@ Refused f c number =
     Among number (refusals f)
     ⊎ ((b : Board) × ReadAnswer f 0 b × (Among number (commandRefusals b c) ⊎ (number ≡ 12)))
 
-pub file-command-ends : {f : List ℕ} {c : Command} {entry exit : List ℕ} {place : Place} {number len : ℕ} → CommandAnswer f c entry exit place number len
-    → ((number ≡ 0) × ((b : Board) × ReadAnswer f 0 b × Placed (after (tablesOf b) c) entry 0 exit len)) ⊎ (Refused f c number × Unplaced entry exit len)
+pub file-command-ends : {f : List ℕ} {c : Command} {entry exit : List ℕ} {place : Place} {answer : Answer} {len : ℕ} → CommandAnswer f c entry exit place answer len
+    → ((answer .number ≡ 0) × ((b : Board) × ReadAnswer f 0 b × Placed (after (tablesOf b) c) entry 0 exit len)) ⊎ (Refused f c (answer .number) × Unplaced entry exit len)
 file-command-ends {f} (unread {number = n} r z e) = inr (inl (refused-among (refusals f) n (r .numbered) z), (refl, e))
-file-command-ends {c = c} (refused {number = n} {b = b} r d z e) = inr (inr (b, r, inl (refused-among (commandRefusals b c) n (d .numbered) z)), (refl, e))
+file-command-ends {c = c} (refused {answer = m} {b = b} r d z e) = inr (inr (b, r, inl (refused-among (commandRefusals b c) (m .number) (d .numbered) z)), (refl, e))
 file-command-ends (no-room {b = b} r d w) = inr (inr (b, r, inr refl), w .refused (λ e. absurd (omega (arith, e))))
 file-command-ends {entry = entry} {exit = exit} {len = len} (done {b = b} r d w) =
     inl (refl, (b, r, subst (λ (t : Tables). Placed t entry 0 exit len) (d .done refl .tables-are) (w .done refl)))
@@ -105,7 +109,7 @@ file-command-ends {entry = entry} {exit = exit} {len = len} (done {b = b} r d w)
 -- ---- demand 2: the answer is the one that document 01 states, and no other. What it states is `Decided`, `DerivesAnswer`, `ScopeAnswer`,
 -- `ManagerAnswer` and `StepsAnswer` on a board, and `ReadAnswer`, `WriteAnswer`, `StretchOf`, the four `..OnFile` and `CommandAnswer` on files.
 
-pub one-outcome : {b x y : Board} {c : Command} {m n : ℕ} → Decided b c m x → Decided b c n y → (m ≡ n) × (x ≡ y)
+pub one-outcome : {b x y : Board} {c : Command} {m n : Answer} → Decided b c m x → Decided b c n y → (m ≡ n) × (x ≡ y)
 one-outcome = decided-unique
 
 -- a board that keeps a wrong value gives 1: from a command, from a question, and from the writer
@@ -113,8 +117,8 @@ module _ {b : Board} (wrong : KeepsRight b → ⊥) where
   unsound : SoundBoard b → ⊥
   unsound s = wrong (s .right)
 
-  pub wrong-value-command : {next : Board} {c : Command} {number : ℕ} → Decided b c number next → number ≡ 1
-  wrong-value-command {c = c} {number = number} d = first-unique (commandRefusals b c) number 1 (d .numbered) (hit _ _ _ unsound)
+  pub wrong-value-command : {next : Board} {c : Command} {answer : Answer} → Decided b c answer next → answer .number ≡ 1
+  wrong-value-command {c = c} {answer = answer} d = first-unique (commandRefusals b c) (answer .number) 1 (d .numbered) (hit _ _ _ unsound)
 
   pub wrong-value-question : (x y number : ℕ) → First (questionRefusals b x y) number → number ≡ 1
   wrong-value-question x y number f = first-unique (questionRefusals b x y) number 1 f (hit _ _ _ unsound)
@@ -123,7 +127,7 @@ module _ {b : Board} (wrong : KeepsRight b → ⊥) where
   wrong-value-writer {entry} {at = at} {number = number} w = first-unique (writeRefusals b entry at) number 1 (w .numbered) (hit _ _ _ unsound)
 
 -- an edge is its parts (request 2): what is added joins what stands, what is removed leaves the rest, and the edge goes with its last part
-module _ {b next : Board} {c : Command} (d : Decided b c 0 next) where
+module _ {b next : Board} {c : Command} (d : Decided b c (plain 0) next) where
   formed : Malformed c → ⊥
   formed = first-done (commandRefusals b c) refl (d .numbered) .1 .0
 
@@ -134,8 +138,9 @@ module _ {b next : Board} {c : Command} (d : Decided b c 0 next) where
   edge-removed e = ap (λ t. edgeKind t c) (d .done refl .tables-are) ∙ kind-removed c (role-lt c formed) (junior-lt c formed (omega (arith, e))) (tablesOf b) e
 
   -- what was added where no part of it stood the same actor can take back at once, and that leaves the very board of before
-  pub added-taken-back : {last : Board} {r : Command} {number : ℕ} → Decided next r number last → TakesBack c r → NoneStands (tablesOf b) c → (number ≡ 0) × (last ≡ b)
-  added-taken-back {last} {r} {number} again w free =
+  pub added-taken-back : {last : Board} {r : Command} {answer : Answer} → Decided next r answer last → TakesBack c r → NoneStands (tablesOf b) c → (answer .number ≡ 0) × (last ≡ b)
+  added-taken-back {last} {r} {answer} again w free =
+      let number = answer .number in
       let passed = first-done (commandRefusals b c) refl (d .numbered) in
       let now = d .done refl in
       let zero : number ≡ 0 = stable (ℕ-discrete number 0) (λ k. passed .0 (λ s. k (first-unique (commandRefusals next r) number 0 (again .numbered)
@@ -148,8 +153,8 @@ module _ {b next : Board} {c : Command} (d : Decided b c 0 next) where
       )
 
 -- changing an edge to the kind it has leaves the very board, whatever the number
-pub same-kind-again : {b next : Board} {c : Command} {number : ℕ} → Decided b c number next → c .code ≡ 5 → edgeKind (tablesOf b) c ≡ c .kind → next ≡ b
-same-kind-again {b} {next} {c} {number} d e same = dite (ℕ-discrete number 0)
+pub same-kind-again : {b next : Board} {c : Command} {answer : Answer} → Decided b c answer next → c .code ≡ 5 → edgeKind (tablesOf b) c ≡ c .kind → next ≡ b
+same-kind-again {b} {next} {c} {answer} d e same = dite (ℕ-discrete (answer .number) 0)
     (λ z.
     let passed = first-done (commandRefusals b c) refl (subst (First (commandRefusals b c)) z (d .numbered)) in
     let made = d .done z in
@@ -157,18 +162,43 @@ same-kind-again {b} {next} {c} {number} d e same = dite (ℕ-discrete number 0)
     (λ n. d .refused n)
 
 -- and where none of 1 to 6 holds, it is done
-pub same-kind-done : {b next : Board} {c : Command} {number : ℕ} → Decided b c number next → SoundBoard b → Passed (before (Scope (tablesOf b)) (tablesOf b) c)
-    → c .code ≡ 5 → edgeKind (tablesOf b) c ≡ c .kind → number ≡ 0
-same-kind-done {b} {c = c} {number = number} d s passed e same = first-unique (commandRefusals b c) number 0 (d .numbered)
+pub same-kind-done : {b next : Board} {c : Command} {answer : Answer} → Decided b c answer next → SoundBoard b → Passed (before (Scope (tablesOf b)) (tablesOf b) c)
+    → c .code ≡ 5 → edgeKind (tablesOf b) c ≡ c .kind → answer .number ≡ 0
+same-kind-done {b} {c = c} {answer = answer} d s passed e same = first-unique (commandRefusals b c) (answer .number) 0 (d .numbered)
     (pass _ _ _ _ (λ k. k s) (first-next (before (Scope (tablesOf b)) (tablesOf b) c) (afterwards (after (tablesOf b) c) c) 0 passed
     (subst (λ (t : Tables). First (afterwards t c) 0) (sym (idle-change (tablesOf b) c (s .sound .shaped) e same))
     (sound-passes (tablesOf b) c (s .sound) (λ k. absurd (omega arith))))))
+
+-- ---- request 3: who is in the way
+
+module _ {b : Board} (s : SoundBoard b) where
+  -- a no on scope has exactly one cause and one role in the way, and a yes has none
+  pub no-has-one-cause : (a r : ℕ) → (Scope (tablesOf b) a r → ⊥)
+      → (cause : ℕ) × ((way : ℕ) × OutOfScope (tablesOf b) a r cause way × ((k w : ℕ) → OutOfScope (tablesOf b) a r k w → (k ≡ cause) × (w ≡ way)))
+  no-has-one-cause a r n = let w = out-some (s .sound .shaped) a r n in (w .0, (w .1 .0, w .1 .1, λ k v o. out-unique o (w .1 .1)))
+
+  pub yes-has-no-cause : (a r : ℕ) {cause way : ℕ} → OutOfScope (tablesOf b) a r cause way → Scope (tablesOf b) a r → ⊥
+  yes-has-no-cause a r = out-not
+
+  -- the scope condition fails exactly where there is a role to name with its cause
+  pub offends-where : (c : Command) → (Malformed c → ⊥) → Fits c
+      → (InScope (Scope (tablesOf b)) c → ⊥) ↔ ((m : Answer) × (m .number ≡ 6) × Blames (Scope (tablesOf b)) (OutOfScope (tablesOf b)) c m)
+  offends-where = blamed-where (s .sound .shaped)
+
+-- a 6 names the one role that offends first, with its one cause
+pub six-names-one : {b next : Board} {c : Command} {answer : Answer} → Decided b c answer next → answer .number ≡ 6
+    → Blames (Scope (tablesOf b)) (OutOfScope (tablesOf b)) c answer × ((m : Answer) → m .number ≡ 6 → Blames (Scope (tablesOf b)) (OutOfScope (tablesOf b)) c m → m ≡ answer)
+six-names-one d six = (d .named .six six, λ m e h. blames-one (λ a x c d v w. out-unique) (e ∙ sym six) h (d .named .six six))
+
+-- and every other answer, done or refused, names nobody
+pub others-name-nobody : {b next : Board} {c : Command} {answer : Answer} → Decided b c answer next → answer .number ≢ 6 → answer ≡ plain (answer .number)
+others-name-nobody d = d .named .other
 
 module _ (b : Board) where
   pub one-derives : (x y : ℕ) {m n : ℕ} {p q : Bool} → DerivesAnswer b x y m p → DerivesAnswer b x y n q → (m ≡ n) × (p ≡ q)
   one-derives = derives-unique b
 
-  pub one-scope : (a r : ℕ) {m n j k : ℕ} {p q : Bool} → ScopeAnswer b a r m p j → ScopeAnswer b a r n q k → (m ≡ n) × _≡_ {A = Bool × ℕ} (p, j) (q, k)
+  pub one-scope : (a r : ℕ) {m n j k c d v w : ℕ} {p q : Bool} → ScopeAnswer b a r m p j c v → ScopeAnswer b a r n q k d w → (m ≡ n) × _≡_ {A = Bool × ℕ × ℕ × ℕ} (p, j, c, v) (q, k, d, w)
   one-scope = scope-unique b
 
   pub one-line-manager : (r : ℕ) {m n : ℕ} {x y : Manager} → ManagerAnswer b r m x → ManagerAnswer b r n y → (m ≡ n) × (x ≡ y)
@@ -182,7 +212,7 @@ module _ (f : List ℕ) where
   pub one-derives-on-file : (x y : ℕ) {m n : ℕ} {p q : Bool} → DerivesOnFile f x y m p → DerivesOnFile f x y n q → (m ≡ n) × (p ≡ q)
   one-derives-on-file = derives-file-unique f
 
-  pub one-scope-on-file : (a r : ℕ) {m n j k : ℕ} {p q : Bool} → ScopeOnFile f a r m p j → ScopeOnFile f a r n q k → (m ≡ n) × _≡_ {A = Bool × ℕ} (p, j) (q, k)
+  pub one-scope-on-file : (a r : ℕ) {m n j k c d v w : ℕ} {p q : Bool} → ScopeOnFile f a r m p j c v → ScopeOnFile f a r n q k d w → (m ≡ n) × _≡_ {A = Bool × ℕ × ℕ × ℕ} (p, j, c, v) (q, k, d, w)
   one-scope-on-file = scope-file-unique f
 
   pub one-line-manager-on-file : (r : ℕ) {m n : ℕ} {x y : Manager} → ManagerOnFile f r m x → ManagerOnFile f r n y → (m ≡ n) × (x ≡ y)
@@ -194,7 +224,7 @@ module _ (f : List ℕ) where
   pub one-stretch : (file-at : ℕ × ℕ) (role : ℕ) {x y : List ℕ} {p q : ℕ × ℕ} → StretchOf f file-at role x p → StretchOf f file-at role y q → (x ≡ y) × (p ≡ q)
   one-stretch = stretch-unique f
 
-pub one-file-command : {f : List ℕ} {c : Command} {entry exit other : List ℕ} {p q : Place} {m n k l : ℕ}
+pub one-file-command : {f : List ℕ} {c : Command} {entry exit other : List ℕ} {p q : Place} {m n : Answer} {k l : ℕ}
     → CommandAnswer f c entry exit p m k → CommandAnswer f c entry other q n l → (p ≡ q) × (m ≡ n) × (k ≡ l) × (exit ≡ other)
 one-file-command = command-unique
 
@@ -218,8 +248,8 @@ file-accepted = accepted
 -- ---- demand 3: on every board reached, each live role but 0 has one line manager, and the way up by them ends at role 0
 
 -- a command leaves a sound board sound: done it promises so, which rests on `sound-after`, and refused it changes nothing
-pub command-keeps : {b next : Board} {c : Command} {number : ℕ} → Decided b c number next → SoundBoard b → SoundBoard next
-command-keeps {number = number} d s = dite (ℕ-discrete number 0) (λ e. d .done e .fit) (λ n. subst SoundBoard (sym (d .refused n)) s)
+pub command-keeps : {b next : Board} {c : Command} {answer : Answer} → Decided b c answer next → SoundBoard b → SoundBoard next
+command-keeps {answer = answer} d s = dite (ℕ-discrete (answer .number) 0) (λ e. d .done e .fit) (λ n. subst SoundBoard (sym (d .refused n)) s)
 
 pub reached-sound : {b : Board} → Reached b → SoundBoard b
 reached-sound founding = founding-sound
@@ -261,9 +291,12 @@ module _ {b : Board} (reached : Reached b) where
   pub kept-manager : (r : ℕ) → ManagerIs (tablesOf b) r (managerAt (b .manager) r)
   kept-manager = manager-kept (reached-sound reached)
 
-  -- so scope and steps can be read off it
+  -- so scope, why not, and steps can be read off it
   pub kept-scope : (a r : ℕ) → ScopeBy (b .derives) (b .derivers) a r ↔ Scope (tablesOf b) a r
   kept-scope = scope-kept (reached-sound reached)
+
+  pub kept-reason : (a r cause way : ℕ) → OutOfScopeBy (b .derives) (b .derivers) a r cause way ↔ OutOfScope (tablesOf b) a r cause way
+  kept-reason a r cause way = out-by (reached-sound reached .right .views)
 
   pub kept-steps : (r : ℕ) → Live (tablesOf b) r → Climb (tablesOf b) r (stepsUp (b .manager) 64 0 r)
   kept-steps = steps-kept (reached-sound reached)

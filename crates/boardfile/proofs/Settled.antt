@@ -8,15 +8,17 @@ use native.Mathlib.Decide.{ℕ-discrete}
 use native.Mathlib.Omega.{arith}
 use Rattle.hierarchy.specs.Tables.{Tables}
 use Rattle.hierarchy.specs.First.{First}
-use Rattle.hierarchy.specs.Words.{Sound}
+use Rattle.hierarchy.specs.Words.{OutOfScope, Sound}
+use Rattle.hierarchy.proofs.Bars.{out-unique}
 use Rattle.hierarchy.proofs.ClimbLaws.{climb-unique}
 use Rattle.hierarchy.proofs.FirstLaws.{first-unique}
 use Rattle.board.specs.Boards.{tablesOf}
-use Rattle.board.specs.Commands.{Decided}
+use Rattle.board.specs.Commands.{plain, Decided}
 use Rattle.board.specs.declared.Board.{Board}
 use Rattle.board.specs.declared.Command.{Command}
+use Rattle.board.specs.declared.commands.Answer.{Answer}
 use Rattle.board.specs.declared.questions.Manager.{Manager}
-use Rattle.board.proofs.Settled.{decided-unique, answered-unique, says-unique, counts-unique, manages-unique}
+use Rattle.board.proofs.Settled.{decided-unique, answered-unique, says-unique, tells-unique, manages-unique}
 use Rattle.boardfile.specs.declared.commands.Place.{Place}
 use Rattle.boardfile.specs.Files.{stretchOf}
 use Rattle.boardfile.specs.Answers.{refusals, ReadAnswer, ReadInto, askedRefusals, OfFile, DerivesOnFile, ScopeOnFile, ManagerOnFile, StepsOnFile, startOrNone, BoundsAnswer, StretchAnswer, StretchOf, writeRefusals, WriteAnswer}
@@ -71,8 +73,9 @@ module _ (f : List ℕ) where
   pub derives-file-unique : (x y : ℕ) {m n : ℕ} {p q : Bool} → DerivesOnFile f x y m p → DerivesOnFile f x y n q → (m ≡ n) × (p ≡ q)
   derives-file-unique x y = answered-unique (λ _. of-file-unique (λ _ _. says-unique))
 
-  pub scope-file-unique : (a r : ℕ) {m n j k : ℕ} {p q : Bool} → ScopeOnFile f a r m p j → ScopeOnFile f a r n q k → (m ≡ n) × _≡_ {A = Bool × ℕ} (p, j) (q, k)
-  scope-file-unique a r = answered-unique (λ _. of-file-unique (λ _ _. counts-unique))
+  pub scope-file-unique : (a r : ℕ) {m n j k c d v w : ℕ} {p q : Bool} → ScopeOnFile f a r m p j c v → ScopeOnFile f a r n q k d w
+      → (m ≡ n) × _≡_ {A = Bool × ℕ × ℕ × ℕ} (p, j, c, v) (q, k, d, w)
+  scope-file-unique a r = answered-unique (λ _. of-file-unique (λ b _. tells-unique (OutOfScope (tablesOf b) a) (λ c d v w. out-unique)))
 
   pub manager-file-unique : (r : ℕ) {m n : ℕ} {x y : Manager} → ManagerOnFile f r m x → ManagerOnFile f r n y → (m ≡ n) × (x ≡ y)
   manager-file-unique r = answered-unique (λ _. of-file-unique (λ b. manages-unique b r))
@@ -105,28 +108,31 @@ module _ (f : List ℕ) where
 -- ---- a command on a file: the place, the number, the length and the whole buffer
 
 module _ {f : List ℕ} {b d : Board} (p : ReadAnswer f 0 b) (q : ReadAnswer f 0 d) {c : Command} {x y : Board} where
-  step-unique : {m n : ℕ} → Decided b c m x → Decided d c n y → (m ≡ n) × (x ≡ y)
+  step-unique : {m n : Answer} → Decided b c m x → Decided d c n y → (m ≡ n) × (x ≡ y)
   step-unique {m} h k = decided-unique (subst (λ (z : Board). Decided z c m x) (read-unique p q .1) h) k
 
-  last-unique : {entry exit other : List ℕ} {m n k l : ℕ} → Decided b c 0 x → Decided d c 0 y → WriteAnswer x entry 0 exit m k → WriteAnswer y entry 0 other n l
+  last-unique : {entry exit other : List ℕ} {m n k l : ℕ} → Decided b c (plain 0) x → Decided d c (plain 0) y → WriteAnswer x entry 0 exit m k → WriteAnswer y entry 0 other n l
       → (m ≡ n) × (k ≡ l) × (exit ≡ other)
   last-unique {entry} {exit} {m = m} {k = k} h j v w = write-unique (subst (λ (z : Board). WriteAnswer z entry 0 exit m k) (step-unique h j .1) v) w
 
-pub command-unique : {f : List ℕ} {c : Command} {entry exit other : List ℕ} {p q : Place} {m n k l : ℕ}
+number-of : {m n : Answer} → m ≡ n → m .number ≡ n .number
+number-of = ap (λ (m : Answer). m .number)
+
+pub command-unique : {f : List ℕ} {c : Command} {entry exit other : List ℕ} {p q : Place} {m n : Answer} {k l : ℕ}
     → CommandAnswer f c entry exit p m k → CommandAnswer f c entry other q n l → (p ≡ q) × (m ≡ n) × (k ≡ l) × (exit ≡ other)
-command-unique (unread p z x) (unread q w y) = (refl, read-unique p q .0, refl, x ∙ sym y)
+command-unique (unread p z x) (unread q w y) = (refl, ap plain (read-unique p q .0), refl, x ∙ sym y)
 command-unique (unread p z x) (refused q k w y) = absurd (z (read-unique p q .0))
 command-unique (unread p z x) (no-room q k v) = absurd (z (read-unique p q .0))
 command-unique (unread p z x) (done q k v) = absurd (z (read-unique p q .0))
 command-unique (refused p h z x) (unread q w y) = absurd (w (read-unique q p .0))
 command-unique (refused p h z x) (refused q k w y) = (refl, step-unique p q h k .0, refl, x ∙ sym y)
-command-unique (refused p h z x) (no-room q k v) = absurd (z (step-unique p q h k .0))
-command-unique (refused p h z x) (done q k v) = absurd (z (step-unique p q h k .0))
+command-unique (refused p h z x) (no-room q k v) = absurd (z (number-of (step-unique p q h k .0)))
+command-unique (refused p h z x) (done q k v) = absurd (z (number-of (step-unique p q h k .0)))
 command-unique (no-room p h u) (unread q w y) = absurd (w (read-unique q p .0))
-command-unique (no-room p h u) (refused q k w y) = absurd (w (step-unique q p k h .0))
+command-unique (no-room p h u) (refused q k w y) = absurd (w (number-of (step-unique q p k h .0)))
 command-unique (no-room p h u) (no-room q k v) = (refl, refl, refl, last-unique p q h k u v .2)
 command-unique (no-room p h u) (done q k v) = let l = last-unique p q h k u v .0 in absurd (omega arith)
 command-unique (done p h u) (unread q w y) = absurd (w (read-unique q p .0))
-command-unique (done p h u) (refused q k w y) = absurd (w (step-unique q p k h .0))
+command-unique (done p h u) (refused q k w y) = absurd (w (number-of (step-unique q p k h .0)))
 command-unique (done p h u) (no-room q k v) = let l = last-unique p q h k u v .0 in absurd (omega arith)
 command-unique (done p h u) (done q k v) = let l = last-unique p q h k u v in (refl, refl, l .1, l .2)

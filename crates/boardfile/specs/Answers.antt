@@ -8,13 +8,14 @@ use lib.Dec.{eqb}
 use lib.ListN.{length, take, drop}
 use Rattle.sets.specs.Sets.{_isIn_}
 use Rattle.hierarchy.specs.Tables.{Tables, Shaped}
-use Rattle.hierarchy.specs.Words.{Derives, Scope, Climb, Loops, Managed}
+use Rattle.hierarchy.specs.Words.{Derives, Scope, OutOfScope, Climb, Loops, Managed}
 use Rattle.hierarchy.specs.First.{First}
 use Rattle.board.specs.Boards.{tablesOf, foundingBoard, SoundBoard}
-use Rattle.board.specs.Commands.{Decided}
-use Rattle.board.specs.Questions.{Answered, Says, Counts, Manages}
+use Rattle.board.specs.Commands.{plain, Decided}
+use Rattle.board.specs.Questions.{Answered, Says, Tells, Manages}
 use Rattle.board.specs.declared.Board.{Board}
 use Rattle.board.specs.declared.Command.{Command}
+use Rattle.board.specs.declared.commands.Answer.{Answer}
 use Rattle.board.specs.declared.questions.Manager.{Manager}
 use Rattle.board.specs.declared.questions.Manager.the-variants.{Nobody}
 use Rattle.boardfile.specs.declared.commands.Place.{Place}
@@ -63,12 +64,13 @@ askedRefusals f x y =
 abbrev pub OfFile : {A : Type 0} → List ℕ → (Board → A → Type 0) → A → Type 0
 OfFile f Right value = (b : Board) × ReadAnswer f 0 b × Right b value
 
--- document 01's four questions, with no, none or zero beside a refusal
+-- document 01's four questions, with no, none or zero beside a refusal; by request 3 a no on scope says why
 abbrev pub DerivesOnFile : List ℕ → ℕ → ℕ → ℕ → Bool → Type 0
 DerivesOnFile f x y = Answered (askedRefusals f x y) (OfFile f (λ b. Says (Derives (tablesOf b) x y))) false
 
-abbrev pub ScopeOnFile : List ℕ → ℕ → ℕ → ℕ → Bool → ℕ → Type 0
-ScopeOnFile f a r number said count = Answered (askedRefusals f a r) (OfFile f (λ b. Counts (Scope (tablesOf b) a) r)) (false, 0) number (said, count)
+abbrev pub ScopeOnFile : List ℕ → ℕ → ℕ → ℕ → Bool → ℕ → ℕ → ℕ → Type 0
+ScopeOnFile f a r number said count cause way =
+    Answered (askedRefusals f a r) (OfFile f (λ b. Tells (Scope (tablesOf b) a) (OutOfScope (tablesOf b) a) r)) (false, 0, 0, 0) number (said, count, cause, way)
 
 abbrev pub ManagerOnFile : List ℕ → ℕ → ℕ → Manager → Type 0
 ManagerOnFile f r = Answered (askedRefusals f r r) (OfFile f (λ b. Manages b r)) Nobody
@@ -128,10 +130,10 @@ pub record WriteAnswer (b : Board) (entry : List ℕ) (at : ℕ) (exit : List �
 
 -- ---- a command on the board in a file: read, decided, and written to the start of a buffer
 
--- Where the number arose: a refusal of the file, of the command on its board, or of the writing; done is the command's. The buffer
--- holds `entry` before the call and `exit` after it, and every refusal leaves it.
-pub data CommandAnswer (f : List ℕ) (c : Command) (entry exit : List ℕ) : Place → ℕ → ℕ → Type 0 where
-  unread : {number : ℕ} {b : Board} → ReadAnswer f number b → number ≢ 0 → exit ≡ entry → CommandAnswer f c entry exit File number 0
-  refused : {number : ℕ} {b next : Board} → ReadAnswer f 0 b → Decided b c number next → number ≢ 0 → exit ≡ entry → CommandAnswer f c entry exit Asked number 0
-  no-room : {b next : Board} → ReadAnswer f 0 b → Decided b c 0 next → WriteAnswer next entry 0 exit 12 0 → CommandAnswer f c entry exit Writing 12 0
-  done : {len : ℕ} {b next : Board} → ReadAnswer f 0 b → Decided b c 0 next → WriteAnswer next entry 0 exit 0 len → CommandAnswer f c entry exit Asked 0 len
+-- Where the number arose: a refusal of the file, of the command on its board, or of the writing; done is the command's. Only the command's
+-- own 6 names anybody. The buffer holds `entry` before the call and `exit` after it, and every refusal leaves it.
+pub data CommandAnswer (f : List ℕ) (c : Command) (entry exit : List ℕ) : Place → Answer → ℕ → Type 0 where
+  unread : {number : ℕ} {b : Board} → ReadAnswer f number b → number ≢ 0 → exit ≡ entry → CommandAnswer f c entry exit File (plain number) 0
+  refused : {answer : Answer} {b next : Board} → ReadAnswer f 0 b → Decided b c answer next → answer .number ≢ 0 → exit ≡ entry → CommandAnswer f c entry exit Asked answer 0
+  no-room : {b next : Board} → ReadAnswer f 0 b → Decided b c (plain 0) next → WriteAnswer next entry 0 exit 12 0 → CommandAnswer f c entry exit Writing (plain 12) 0
+  done : {len : ℕ} {b next : Board} → ReadAnswer f 0 b → Decided b c (plain 0) next → WriteAnswer next entry 0 exit 0 len → CommandAnswer f c entry exit Asked (plain 0) len

@@ -6,9 +6,10 @@ use Rattle.board.specs.Boards.{foundingBoard}
 use Rattle.board.specs.Commands.{Decided}
 use Rattle.board.specs.declared.Board.{Board}
 use Rattle.board.specs.declared.Command.{Command}
+use Rattle.board.specs.declared.commands.Answer.{Answer}
 use Rattle.boardfile.specs.Answers.{ReadAnswer}
 
 pub data Reached : Board → Type 0 where
   founding : Reached foundingBoard
   file : {f : List ℕ} {b : Board} → ReadAnswer f 0 b → Reached b
-  command : {b next : Board} {c : Command} {number : ℕ} → Reached b → Decided b c number next → Reached next
+  command : {b next : Board} {c : Command} {answer : Answer} → Reached b → Decided b c answer next → Reached next

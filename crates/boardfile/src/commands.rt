@@ -3,6 +3,7 @@ ghost use Rattle.boardfile.specs.Answers.{CommandAnswer};
 use crate::opening::open;
 use crate::writer::put;
 use board::Command;
+use board::commands::Answer;
 use board::commands::decide;
 
 // Where a number arose: in the command (and every 0), in the file handed in, in writing the new one.
@@ -12,15 +13,16 @@ pub enum Place {
     Writing,
 }
 
+// The command's own answer where it arose there, else a number alone; and the length of the new file.
 pub struct Commanded {
     pub place: Place,
-    pub number: u8,
+    pub answer: Answer,
     pub len: usize,
 }
 
 // Done leaves the file of the board afterwards at the start of `out`, with its length; a refusal leaves `out` as it was.
 pub fn command(file: &[u8], c: Command, out: &mut [u8]) -> Commanded
-    ensures { λ r. ⌜ CommandAnswer (now (file .entry)) c (now (out .entry)) (now (out .exit)) (r .place) (r .number) (r .len) ⌝ }
+    ensures { λ r. ⌜ CommandAnswer (now (file .entry)) c (now (out .entry)) (now (out .exit)) (r .place) (r .answer) (r .len) ⌝ }
 {
     let mut i = [0u64; 64];
     let mut a = [0u64; 64];
@@ -38,12 +40,12 @@ pub fn command(file: &[u8], c: Command, out: &mut [u8]) -> Commanded
     if f.number != 0 {
         return Commanded {
             place: Place::File,
-            number: f.number,
+            answer: Answer::plain(f.number),
             len: 0,
         };
     }
     let mut live = f.live;
-    let number = decide(
+    let answer = decide(
         &mut live,
         &mut i,
         &mut a,
@@ -52,10 +54,10 @@ pub fn command(file: &[u8], c: Command, out: &mut [u8]) -> Commanded
         &mut manager,
         c,
     );
-    if number != 0 {
+    if answer.number != 0 {
         return Commanded {
             place: Place::Asked,
-            number,
+            answer,
             len: 0,
         };
     }
@@ -63,13 +65,13 @@ pub fn command(file: &[u8], c: Command, out: &mut [u8]) -> Commanded
     if w.number != 0 {
         return Commanded {
             place: Place::Writing,
-            number: w.number,
+            answer: Answer::plain(w.number),
             len: 0,
         };
     }
     Commanded {
         place: Place::Asked,
-        number: 0,
+        answer,
         len: w.len,
     }
 }

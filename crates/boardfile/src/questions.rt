@@ -57,9 +57,9 @@ pub fn derives(file: &[u8], x: u32, y: u32) -> Derived
     derives_by(f.live, &derives, x, y)
 }
 
-// Is r in the scope of a, and how many are.
+// Is r in the scope of a, why not, and how many are.
 pub fn scope(file: &[u8], a: u32, r: u32) -> Scoped
-    ensures { λ y. ⌜ ScopeOnFile (now (file .entry)) a r (y .number) (y .yes) (y .count) ⌝ }
+    ensures { λ y. ⌜ ScopeOnFile (now (file .entry)) a r (y .number) (y .yes) (y .count) (y .cause) (y .way) ⌝ }
 {
     let mut by_i = [0u64; 64];
     let mut by_a = [0u64; 64];
@@ -79,6 +79,8 @@ pub fn scope(file: &[u8], a: u32, r: u32) -> Scoped
             number: f.number,
             yes: false,
             count: 0,
+            cause: 0,
+            way: 0,
         };
     }
     scope_by(f.live, &derives, &derivers, a, r)

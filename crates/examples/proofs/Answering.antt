@@ -1,38 +1,36 @@
--- The computed number of a command is the number that document 01's table of refusals gives it. Assumes nothing.
-use mathlib.Core.Path.{_≡_, refl, sym, subst}
-use mathlib.Core.Logic.{_⊎_, inl, inr, ⊎-elim, _↔_, Iff·rfl}
+-- The computed number of a command is the number that document 01's table of refusals gives it, and its 6 names whom the test says.
+-- Assumes nothing.
+use mathlib.Core.Path.{_≡_, refl, sym, subst, subst₂}
+use mathlib.Core.Logic.{inl, inr, ⊎-elim, _↔_, Iff·rfl, Iff·trans, _≢_}
 use mathlib.Core.Bool.{Bool, true, false, cond, false≢true}
 use mathlib.Core.List.{List, [], _∷_}
 use Prim.Native.Nat.{ℕ, _^_, _≤_, _<_}
 use native.Mathlib.Omega.{arith}
-use lib.Dec.{leb, ltb}
-use borrow.Author.Tests.{leb-true, le-leb}
+use lib.Dec.{ltb}
 use Rattle.sets.specs.Sets.{bit}
 use Rattle.sets.proofs.Bools.{or-cases, lt-or-ge, not-so, false-no}
 use Rattle.sets.proofs.Laws.{bit-lt}
 use Rattle.hierarchy.specs.Tables.{Tables, Shaped}
-use Rattle.hierarchy.specs.Words.{Scope, Sound}
+use Rattle.hierarchy.specs.Words.{Scope, OutOfScope, Sound}
 use Rattle.hierarchy.specs.First.{First}
-use Rattle.hierarchy.proofs.FirstLaws.{pass, hit, none}
-use Rattle.hierarchy.proofs.Checks.{all-is, any-is, and-is, or-is, if-is, not-is, eq-is, lt-is}
-use Rattle.hierarchy.proofs.Decide.{scope-is, admin-is, loops-is, managed-is, sound-is, sound-dec}
+use Rattle.hierarchy.proofs.FirstLaws.{pass, passed, hit, none}
+use Rattle.hierarchy.proofs.Checks.{all-is, any-is, and-is, or-is, if-is, not-is, eq-is, lt-is, le-is}
+use Rattle.hierarchy.proofs.Decide.{scope-is, out-of-scope-is, admin-is, loops-is, managed-is, sound-is, sound-dec}
 use Rattle.board.specs.Boards.{tablesOf, KeepsRight, SoundBoard}
 use Rattle.board.specs.Effects.{after}
-use Rattle.board.specs.Commands.{Malformed, Missing, PartsStand, Standing, Lacking, InScope, Outside, asSenior, asJunior, needed, scoped, strictly, afterwards, onTables, refusals}
-use Rattle.board.specs.Commands.{Malformed.no-code, Malformed.no-actor, Malformed.no-role, Malformed.no-junior, Malformed.no-kind}
-use Rattle.board.proofs.Rules.{stable, first-alike}
+use Rattle.board.specs.Commands.{Fits, Malformed, Missing, PartsStand, Standing, Lacking, InScope, Outside, asSenior, asJunior, needed, scoped, strictly, conditions, Breaks, Offends, Because, Blames, afterwards, onTables, refusals}
+use Rattle.board.specs.Commands.{Malformed.no-code, Malformed.no-actor, Malformed.no-role, Malformed.no-junior, Malformed.no-kind, Offends.here, Offends.later, Because.out, Because.itself}
+use Rattle.board.proofs.Offenders.{Small, all-small}
+use Rattle.board.proofs.Rules.{stable, first-alike, first-without}
 use Rattle.board.proofs.SoundAfter.{shaped-after}
 use Rattle.board.proofs.Trying.{parts-row, edge-row, standing-row, lacking-row}
 use Rattle.board.specs.declared.Board.{Board}
 use Rattle.board.specs.declared.Command.{Command}
-use Rattle.examples.specs.Answer.{malformed?, missing?, partsStand?, linked?, standing?, lacking?, inScope?, outside?, first?, afterwards?, answer?, Fits, fits?}
+use Rattle.examples.specs.Answer.{malformed?, missing?, partsStand?, linked?, standing?, lacking?, inScope?, outside?, first?, afterwards?, answer?, other?, breaks?, because?, offends?, blames?, fits?}
 use Rattle.examples.proofs.Leaving.{left-is}
 
 is : (p : Bool) → (p ≡ true) ↔ (p ≡ true)
 is p = Iff·rfl
-
-le-is : (m n : ℕ) → (leb m n ≡ true) ↔ (m ≤ n)
-le-is m n = (leb-true m n, le-leb m n)
 
 fit-is : (s : ℕ) → (ltb s (2 ^ 64) ≡ true) ↔ (s < 2 ^ 64)
 fit-is s = lt-is s (2 ^ 64)
@@ -154,8 +152,12 @@ afterwards-is t c s =
     tried 8 _ _ (outside-is t c s) (λ _.
     tried 9 _ _ (not-is (managed-is s)) (λ _. none)))
 
+-- document 01's rows, the first of them by the tables alone
+abbrev pub byTables : Tables → Command → List (ℕ × Type 0)
+byTables t c = (1, (Sound t → ⊥)) ∷ onTables t c
+
 -- The computed number of a command is that of its first refusal in document 01's table, on tables;
-pub answer-is : (t : Tables) (c : Command) → Fits c → First ((1, (Sound t → ⊥)) ∷ onTables t c) (answer? t c)
+pub answer-is : (t : Tables) (c : Command) → Fits c → First (byTables t c) (answer? t c)
 unfolding answer? first?
 answer-is t c fits =
     tried 1 _ _ (not-is (sound-is t)) (λ sound. let s = stable (sound-dec t) sound .shaped in
@@ -167,6 +169,46 @@ answer-is t c fits =
     subst (λ d. First (afterwards (after t c) c) (first? (afterwards? d c))) (sym (left-is t c s)) (afterwards-is (after t c) c (shaped-after t c))))))))
 
 -- and so it is on a board that keeps right values.
-pub on-board : (b : Board) (c : Command) (n : ℕ) → KeepsRight b → First ((1, (Sound (tablesOf b) → ⊥)) ∷ onTables (tablesOf b) c) n → First (refusals b c) n
+pub on-board : (b : Board) (c : Command) (n : ℕ) → KeepsRight b → First (byTables (tablesOf b) c) n → First (refusals b c) n
 on-board b c n right = first-alike ((1, (Sound (tablesOf b) → ⊥)) ∷ []) ((1, (SoundBoard b → ⊥)) ∷ []) (onTables (tablesOf b) c) (onTables (tablesOf b) c) n
     (refl, (λ h s. h (s .sound), λ h s. h (record { sound = s; right = right })), tt) (λ _ f. f)
+
+-- ---- request 3: whom a 6 names
+
+module _ {t : Tables} (s : Shaped t) (a : ℕ) where
+  other-is : (strict : Bool) (x : ℕ) → (other? a strict x ≡ true) ↔ (strict ≡ true → a ≢ x)
+  other-is strict x = if-is (is strict) (not-is (eq-is a x))
+
+  breaks-is : (those : ℕ → Bool) (strict : Bool) (x : ℕ) → (breaks? t a (those, strict) x ≡ true) ↔ Breaks (Scope t) a those strict x
+  unfolding breaks?
+  breaks-is those strict x = Iff·trans (and-is (is (those x)) (λ _. not-is (and-is (scope-is s a x) (λ _. other-is strict x))))
+      (λ h. record { among = h .0; wrong = h .1 }, λ o. (o .among, o .wrong))
+
+  because-holds : {x cause way : ℕ} {strict : Bool} → because? t a x strict cause way ≡ true → Because (OutOfScope t) a x strict cause way
+  unfolding because?
+  because-holds {x} {cause} {way} {strict} e = ⊎-elim
+      (λ h. subst (λ s. Because (OutOfScope t) a x s cause way) (sym (h .0)) (subst₂ (Because (OutOfScope t) a x true) (sym (h .1 .1 .0)) (sym (h .1 .1 .1)) (itself (h .1 .0))))
+      (λ h. out (h .0) (h .1))
+      (or-is
+      (and-is (is strict) (λ _. and-is (eq-is a x) (λ _. and-is (eq-is cause 3) (λ _. eq-is way 0))))
+      (and-is (other-is strict x) (λ _. out-of-scope-is s a x cause way)) .0 e)
+
+  offends-holds : (conditions : List ((ℕ → Bool) × Bool)) → Small conditions → (who cause way : ℕ) → offends? t a conditions who cause way ≡ true
+      → (strict : Bool) × (Offends (Scope t) a conditions who strict × Because (OutOfScope t) a who strict cause way)
+  unfolding offends?
+  offends-holds [] roles who cause way e = absurd (false≢true e)
+  offends-holds ((those, strict) ∷ rest) roles who cause way e =
+      ⊎-elim
+      (λ h. (strict, (here (h .0) (λ y o. ⊎-elim (λ l. absurd (h .1 .0 y l o)) (λ g. g) (lt-or-ge y who)), because-holds (h .1 .1))))
+      (λ h. let r = offends-holds rest (roles .1) who cause way (h .1) in (r .0, (later (λ y o. h .0 y (roles .0 y (o .among)) o) (r .1 .0), r .1 .1)))
+      (or-is
+      (and-is (breaks-is those strict who) (λ _. and-is (all-is who (λ x. not-is (breaks-is those strict x))) (λ _. is (because? t a who strict cause way))))
+      (and-is (all-is 64 (λ x. not-is (breaks-is those strict x))) (λ _. is (offends? t a rest who cause way))) .0 e)
+
+-- Where the command gives 6 its answer names those that the test is true of.
+pub blames-holds : (t : Tables) (c : Command) (who cause way : ℕ) → Shaped t → Fits c → First (byTables t c) 6 → blames? t c who cause way ≡ true
+    → Blames (Scope t) (OutOfScope t) c (record { number = 6; who = who; cause = cause; way = way })
+blames-holds t c who cause way s fits f e =
+    let well = passed 2 _ _ 6 (λ d. absurd (omega (arith, d))) (first-without 1 _ _ 6 (passed 1 _ _ 6 (λ d. absurd (omega (arith, d))) f) f) in
+    let r = offends-holds s (c .actor) (conditions c) (all-small c well fits) who cause way e in
+    record { strict = r .0; offends = r .1 .0; because = r .1 .1 }

@@ -9,18 +9,21 @@ use borrow.Author.Tests.{eqb-true}
 use Rattle.sets.proofs.Bools.{and-left, and-right, false-no}
 use Rattle.sets.proofs.Laws.{bit-lt}
 use Rattle.hierarchy.specs.Tables.{Tables, Shaped, kind}
-use Rattle.hierarchy.specs.Words.{Sound, Climb}
+use Rattle.hierarchy.specs.Words.{Climb}
 use Rattle.hierarchy.specs.Words.{Climb.top, Climb.up}
 use Rattle.hierarchy.specs.First.{First}
 use Rattle.hierarchy.proofs.Checks.{any-is, and-is, not-is, beq-same}
-use Rattle.hierarchy.proofs.Decide.{derives-is, scope-set, admin-is, manager-is, loops-is, sound-is, shaped-is}
+use Rattle.hierarchy.proofs.Decide.{derives-is, scope-set, out-of-scope-is, admin-is, manager-is, loops-is, sound-is, shaped-is}
 use Rattle.hierarchy.proofs.Admin.{admin-live}
-use Rattle.board.specs.Commands.{onTables}
+use Rattle.board.specs.Boards.{tablesOf, KeepsRight}
+use Rattle.board.specs.Commands.{Fits, refusals}
 use Rattle.board.proofs.SoundAfter.{shaped-after}
+use Rattle.board.specs.declared.Board.{Board}
+use Rattle.board.specs.declared.Command.{Command}
 use Rattle.examples.specs.Answer.{left, answer?, fits?}
 use Rattle.examples.specs.Table.{Stage, tablesAt, Fact, Holds, reached, begins?, climbs?, rows?, holds?, right?, every?}
-use Rattle.examples.specs.Table.{Stage.on, Stage._then_, Fact.sound, Fact.derives, Fact.scope, Fact.manager, Fact.steps, Fact.alone, Fact.loops, Fact.edge, Fact.gives, Fact.same}
-use Rattle.examples.proofs.Answering.{fits-is, answer-is, on-board}
+use Rattle.examples.specs.Table.{Stage.on, Stage._then_, Fact.sound, Fact.derives, Fact.scope, Fact.manager, Fact.steps, Fact.alone, Fact.loops, Fact.edge, Fact.gives, Fact.blames, Fact.bars, Fact.same}
+use Rattle.examples.proofs.Answering.{fits-is, byTables, answer-is, on-board, blames-holds}
 use Rattle.examples.proofs.Leaving.{left-is}
 
 -- ---- facts
@@ -48,6 +51,14 @@ tables-same b d e =
     λ k. record { live = live k; i = i k; a = a k }
 
 module _ (t : Tables) (s : Shaped t) where
+  -- the number of a command by the tables,
+  numbered : (c : Command) (n : ℕ) → Fits c → eqb (answer? t c) n ≡ true → First (byTables t c) n
+  numbered c n fits e = subst (First (byTables t c)) (eqb-true (answer? t c) n e) (answer-is t c fits)
+
+  -- which is that on every board of them
+  on-boards : (c : Command) (n : ℕ) → First (byTables t c) n → (b : Board) → tablesOf b ≡ t → KeepsRight b → First (refusals b c) n
+  on-boards c n f b q right = on-board b c n right (subst (λ (t : Tables). First (byTables t c) n) (sym q) f)
+
   fact-holds : (f : Fact) → holds? t f ≡ true → Holds t f
   unfolding holds?
   fact-holds sound e = sound-is t .0 e
@@ -59,9 +70,14 @@ module _ (t : Tables) (s : Shaped t) where
   fact-holds (alone r) e = λ a d. not-is (any-is 64 (λ x. admin-is s x r) (λ x d. bit-lt 64 (s .live-fits) (admin-live d))) .0 e (a, d)
   fact-holds loops e = loops-is s .0 e
   fact-holds (edge x y k) e = eqb-true (kind t x y) k e
-  fact-holds (gives c n) e = λ b q right. on-board b c n right
-      (subst (λ (t : Tables). First ((1, (Sound t → ⊥)) ∷ onTables t c) n) (sym q)
-      (subst (First ((1, (Sound t → ⊥)) ∷ onTables t c)) (eqb-true (answer? t c) n (and-right (fits? c) _ e)) (answer-is t c (fits-is c .0 (and-left (fits? c) _ e)))))
+  fact-holds (gives c n) e = on-boards c n (numbered c n (fits-is c .0 (and-left (fits? c) _ e)) (and-right (fits? c) _ e))
+  fact-holds (blames c who cause way) e =
+      let fits = fits-is c .0 (and-left (fits? c) _ e) in
+      let rest = and-right (fits? c) _ e in
+      let six = numbered c 6 fits (and-left (eqb (answer? t c) 6) _ rest) in
+      let names = blames-holds t c who cause way s fits six (and-right (eqb (answer? t c) 6) _ rest) in
+      λ b q right. (on-boards c 6 six b q right, names)
+  fact-holds (bars a r cause way) e = out-of-scope-is s a r cause way .0 e
   fact-holds (same d) e = tables-same t d e
 
 -- ---- stages and entries

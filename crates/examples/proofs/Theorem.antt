@@ -4,17 +4,17 @@ use mathlib.Core.Bool.{true}
 use mathlib.Core.List.{List·Memᴰ}
 use Rattle.sets.specs.Sets.{bit, digits, setOf}
 use Rattle.hierarchy.specs.Tables.{kind}
-use Rattle.hierarchy.specs.Compute.{all, any, spread, grow, close, derived, derives?, scope?, admin?, manager?, unite, reaches?, loops?, joined?, managed?, shaped?, sound?}
+use Rattle.hierarchy.specs.Compute.{all, any, spread, grow, close, derived, derives?, scope?, inTheWay?, outOfScope?, admin?, manager?, unite, reaches?, loops?, joined?, managed?, shaped?, sound?}
 use Rattle.board.specs.Effects.{lives, entry, listOf}
 use Rattle.board.specs.Commands.{needed, scoped, strictly}
-use Rattle.examples.specs.Boards.{P, W, L, E}
-use Rattle.examples.specs.Answer.{touched?, tableLeft, left, malformed?, missing?, partsStand?, linked?, standing?, lacking?, inScope?, outside?, first?, answer?, fits?}
+use Rattle.examples.specs.Boards.{P, W, L, E, F}
+use Rattle.examples.specs.Answer.{touched?, tableLeft, left, malformed?, missing?, partsStand?, linked?, standing?, lacking?, inScope?, outside?, first?, answer?, breaks?, because?, offends?, fits?}
 use Rattle.examples.specs.Table.{Stage, tablesAt, Fact, Holds, reached, begins?, climbs?, rows?, holds?, right?, every?, table}
 use Rattle.examples.proofs.Entries.{every-holds}
 
 -- To unfold this is to unfold all that the tests compute with.
 unfoldable pub running : Unit {0}
-unfolding P W L E touched? tableLeft left malformed? missing? partsStand? linked? standing? lacking? inScope? outside? first? answer? fits? reached begins? climbs? rows? holds? right? needed scoped strictly lives entry listOf bit digits setOf kind all any spread grow close derived derives? scope? admin? manager? unite reaches? loops? joined? managed? shaped? sound?
+unfolding P W L E F touched? tableLeft left malformed? missing? partsStand? linked? standing? lacking? inScope? outside? first? answer? breaks? because? offends? fits? reached begins? climbs? rows? holds? right? needed scoped strictly lives entry listOf bit digits setOf kind all any spread grow close derived derives? scope? inTheWay? outOfScope? admin? manager? unite reaches? loops? joined? managed? shaped? sound?
 running = tt
 
 every-right : every? table ≡ true

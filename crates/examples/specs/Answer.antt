@@ -1,14 +1,14 @@
--- The number of a command, computed: each row of document 01's table of refusals as a test that can be run, on any tables.
--- `Rattle.examples.proofs.Answering` says that this is the number that the definitions give.
-use mathlib.Core.Bool.{Bool, cond, not, _&&_, _||_}
+-- The number of a command, computed: each row of document 01's table of refusals as a test that can be run, on any tables; and a test
+-- of whom a 6 names. `Rattle.examples.proofs.Answering` says that these are what the definitions give.
+use mathlib.Core.Bool.{Bool, false, cond, not, _&&_, _||_}
 use mathlib.Core.List.{List, [], _∷_, _++_}
-use Prim.Native.Nat.{ℕ, _^_, _<_}
+use Prim.Native.Nat.{ℕ, _^_}
 use lib.Dec.{eqb, ltb, leb}
 use Rattle.sets.specs.Sets.{bit, setOf}
 use Rattle.hierarchy.specs.Tables.{Tables, row, hasI, hasA}
-use Rattle.hierarchy.specs.Compute.{all, any, scope?, admin?, loops?, managed?, sound?}
+use Rattle.hierarchy.specs.Compute.{all, any, scope?, outOfScope?, admin?, loops?, managed?, sound?}
 use Rattle.board.specs.Effects.{lives, entry, listOf}
-use Rattle.board.specs.Commands.{needed, scoped, strictly}
+use Rattle.board.specs.Commands.{needed, scoped, strictly, conditions}
 use Rattle.board.specs.declared.Command.{Command}
 
 -- ---- the tables afterwards
@@ -92,15 +92,33 @@ afterwards? t c =
 unfoldable pub answer? : Tables → Command → ℕ
 answer? t c = first? (before? t c ++ afterwards? (left t c) c)
 
+-- ---- request 3: who offends first, and why
+
+-- x is not the actor itself, where strict scope is asked
+abbrev pub other? : ℕ → Bool → ℕ → Bool
+other? a strict x = not strict || not (eqb a x)
+
+-- x breaks the condition
+unfoldable pub breaks? : Tables → ℕ → (ℕ → Bool) × Bool → ℕ → Bool
+breaks? t a condition x = condition .0 x && not (scope? t a x && other? a (condition .1) x)
+
+unfoldable pub because? : Tables → (a x : ℕ) → Bool → (cause way : ℕ) → Bool
+because? t a x strict cause way =
+    (strict && (eqb a x && (eqb cause 3 && eqb way 0))) || (other? a strict x && outOfScope? t a x cause way)
+
+-- of those who break the first condition that is broken `who` is the lowest, and this is why
+unfoldable pub offends? : Tables → ℕ → List ((ℕ → Bool) × Bool) → (who cause way : ℕ) → Bool
+offends? t a [] who cause way = false
+offends? t a (condition ∷ rest) who cause way =
+    (breaks? t a condition who && (all who (λ x. not (breaks? t a condition x)) && because? t a who (condition .1) cause way))
+    || (all 64 (λ x. not (breaks? t a condition x)) && offends? t a rest who cause way)
+
+abbrev pub blames? : Tables → Command → (who cause way : ℕ) → Bool
+blames? t c = offends? t (c .actor) (conditions c)
+
 -- ---- the shape of a command
 
--- no set that it names has a member above 63: its type says so of each command of the code
-pub record Fits (c : Command) : Type 0 where
-  pub a-seniors : c .«a_seniors» < 2 ^ 64
-  pub i-seniors : c .«i_seniors» < 2 ^ 64
-  pub a-juniors : c .«a_juniors» < 2 ^ 64
-  pub i-juniors : c .«i_juniors» < 2 ^ 64
-
+-- no set that it names has a member above 63
 unfoldable pub fits? : Command → Bool
 fits? c =
     ltb (c .«a_seniors») (2 ^ 64)

@@ -23,6 +23,10 @@ L = record { live = 0b1111; i = 0b0010 ∷ 0b0100 ∷ replicate 62 0; a = 0b1000
 unfoldable pub E : Tables
 E = record { live = 0b11; i = 0b10 ∷ replicate 63 0; a = replicate 64 0 }
 
+-- 0 I 1, 1 A 3, 3 I 4, 0 I 4, a board of request 3's examples: role 0 is in the way of 3 at 4. Role 2 is not live.
+unfoldable pub F : Tables
+F = record { live = 0b11011; i = 0b10010 ∷ 0 ∷ 0 ∷ 0b10000 ∷ replicate 60 0; a = 0 ∷ 0b01000 ∷ replicate 62 0 }
+
 -- the kinds by their letters
 abbrev pub I : ℕ
 I = 1
@@ -33,31 +37,47 @@ A = 2
 abbrev pub IA : ℕ
 IA = 3
 
--- The commands of the examples, none of which names juniors. What a command does not use is 0.
-abbrev pub command : (code actor role junior kind a-seniors i-seniors : ℕ) → Command
-command code actor role junior kind a-seniors i-seniors = record {
+-- The commands of the examples. What a command does not use is 0.
+
+-- a role added between seniors and juniors; under seniors alone
+abbrev pub addBetween : (actor role a-seniors i-seniors a-juniors i-juniors : ℕ) → Command
+addBetween actor role a-seniors i-seniors a-juniors i-juniors = record {
+  code = 1;
+  actor = actor;
+  role = role;
+  junior = 0;
+  kind = 0;
+  «a_seniors» = a-seniors;
+  «i_seniors» = i-seniors;
+  «a_juniors» = a-juniors;
+  «i_juniors» = i-juniors;
+}
+
+abbrev pub addRole : (actor role a-seniors i-seniors : ℕ) → Command
+addRole actor role a-seniors i-seniors = addBetween actor role a-seniors i-seniors 0 0
+
+-- the others, which name no sets
+abbrev pub command : (code actor role junior kind : ℕ) → Command
+command code actor role junior kind = record {
   code = code;
   actor = actor;
   role = role;
   junior = junior;
   kind = kind;
-  «a_seniors» = a-seniors;
-  «i_seniors» = i-seniors;
+  «a_seniors» = 0;
+  «i_seniors» = 0;
   «a_juniors» = 0;
   «i_juniors» = 0;
 }
 
-abbrev pub addRole : (actor role a-seniors i-seniors : ℕ) → Command
-addRole actor role a-seniors i-seniors = command 1 actor role 0 0 a-seniors i-seniors
-
 abbrev pub removeRole : (actor role : ℕ) → Command
-removeRole actor role = command 2 actor role 0 0 0 0
+removeRole actor role = command 2 actor role 0 0
 
 abbrev pub addEdge : (actor senior junior kind : ℕ) → Command
-addEdge actor senior junior kind = command 3 actor senior junior kind 0 0
+addEdge = command 3
 
 abbrev pub removeEdge : (actor senior junior kind : ℕ) → Command
-removeEdge actor senior junior kind = command 4 actor senior junior kind 0 0
+removeEdge = command 4
 
 abbrev pub changeEdge : (actor senior junior kind : ℕ) → Command
-changeEdge actor senior junior kind = command 5 actor senior junior kind 0 0
+changeEdge = command 5

@@ -9,16 +9,16 @@ use Prim.Native.Nat.{ℕ, zero, suc}
 use lib.Dec.{eqb}
 use Rattle.sets.specs.Sets.{_isIn_, setOf}
 use Rattle.hierarchy.specs.Tables.{Tables, kind}
-use Rattle.hierarchy.specs.Words.{Derives, Scope, Administrator, LineManager, Loops, Sound, Climb}
+use Rattle.hierarchy.specs.Words.{Derives, Scope, OutOfScope, Administrator, LineManager, Loops, Sound, Climb}
 use Rattle.hierarchy.specs.First.{First}
-use Rattle.hierarchy.specs.Compute.{any, derives?, scope?, admin?, manager?, loops?, shaped?, sound?}
+use Rattle.hierarchy.specs.Compute.{any, derives?, scope?, outOfScope?, admin?, manager?, loops?, shaped?, sound?}
 use Rattle.board.specs.Boards.{tablesOf, KeepsRight}
 use Rattle.board.specs.Effects.{after}
-use Rattle.board.specs.Commands.{refusals}
+use Rattle.board.specs.Commands.{refusals, Blames}
 use Rattle.board.specs.declared.Board.{Board}
 use Rattle.board.specs.declared.Command.{Command}
-use Rattle.examples.specs.Boards.{P, W, L, E, I, A, IA, addRole, removeRole, addEdge, removeEdge, changeEdge}
-use Rattle.examples.specs.Answer.{left, answer?, fits?}
+use Rattle.examples.specs.Boards.{P, W, L, E, F, I, A, IA, addBetween, addRole, removeRole, addEdge, removeEdge, changeEdge}
+use Rattle.examples.specs.Answer.{left, answer?, blames?, fits?}
 
 -- ---- stages and facts, and what they mean
 
@@ -42,6 +42,8 @@ pub data Fact : Type 0 where
   loops : Fact
   edge : (x y k : ℕ) → Fact
   gives : Command → (n : ℕ) → Fact
+  blames : Command → (who cause way : ℕ) → Fact
+  bars : (a r cause way : ℕ) → Fact
   same : Tables → Fact
 
 abbrev pub Holds : Tables → Fact → Type 0
@@ -63,6 +65,11 @@ Holds t loops = Loops t
 Holds t (edge x y k) = kind t x y ≡ k
 -- on every board of these tables whose kept values are right the command gives the number n
 Holds t (gives c n) = (b : Board) → tablesOf b ≡ t → KeepsRight b → First (refusals b c) n
+-- there it gives 6, and its answer names the role that offends, the cause and the role in the way
+Holds t (blames c who cause way) = (b : Board) → tablesOf b ≡ t → KeepsRight b
+    → First (refusals b c) 6 × Blames (Scope t) (OutOfScope t) c (record { number = 6; who = who; cause = cause; way = way })
+-- r is not in the scope of a, for this cause and with this role in the way
+Holds t (bars a r cause way) = OutOfScope t a r cause way
 -- it is these tables
 Holds t (same d) = t ≡ d
 
@@ -97,6 +104,8 @@ holds? t (alone r) = not (any 64 (λ a. admin? t a r))
 holds? t loops = loops? t
 holds? t (edge x y k) = eqb (kind t x y) k
 holds? t (gives c n) = fits? c && eqb (answer? t c) n
+holds? t (blames c who cause way) = fits? c && (eqb (answer? t c) 6 && blames? t c who cause way)
+holds? t (bars a r cause way) = outOfScope? t a r cause way
 holds? t (same d) = eqb (t .live) (d .live) && (rows? (t .i) (d .i) && rows? (t .a) (d .a))
 
 unfoldable pub right? : Stage → Fact → Bool
@@ -124,7 +133,7 @@ table =
     ∷ (on P, manager 3 1)
     ∷ (on P, steps 3 2)
     -- P: 1 to 3 into I, by role 0 and by role 1
-    ∷ (on P, gives (changeEdge 0 1 3 I) 6)
+    ∷ (on P, blames (changeEdge 0 1 3 I) 3 1 0)
     ∷ (on P, gives (changeEdge 1 1 3 I) 0)
     ∷ (on P then changeEdge 1 1 3 I, derives 0 3 true)
     -- P: a role 4 with the A-senior 1, with the I-senior 1, with none
@@ -133,12 +142,12 @@ table =
     ∷ (on P, gives (addRole 0 4 0 0) 8)
     -- P: roles removed, and one of them added again
     ∷ (on P, gives (removeRole 0 1) 9)
-    ∷ (on P, gives (removeRole 0 0) 6)
+    ∷ (on P, blames (removeRole 0 0) 0 3 0)
     ∷ (on P, gives (removeRole 1 2) 0)
     ∷ (on P then removeRole 1 2, gives (addRole 1 2 0 0b0010) 0)
     ∷ (on P then removeRole 1 2 then addRole 1 2 0 0b0010, same P)
     -- P: edges that would close a loop, the first of them out of scope besides
-    ∷ (on P, gives (addEdge 0 3 0 I) 6)
+    ∷ (on P, blames (addEdge 0 3 0 I) 3 1 0)
     ∷ (on P then addEdge 0 3 0 I, loops)
     ∷ (on P, gives (addEdge 0 2 1 I) 7)
     ∷ (on P, gives (addEdge 0 1 1 I) 7)
@@ -176,4 +185,16 @@ table =
     ∷ (on P then addEdge 0 0 2 I then removeEdge 0 0 2 I, same P)
     -- the missing part leaves role 5 alone
     ∷ (on W then addEdge 0 2 3 I, gives (addEdge 0 2 3 A) 9)
+    -- request 3: who is out of scope, and the role in the way, which may be 0
+    ∷ (on P, bars 0 3 1 0)
+    ∷ (on W, bars 4 5 2 3)
+    ∷ (on W, blames (changeEdge 4 4 5 I) 5 2 3)
+    ∷ (on F, sound)
+    ∷ (on F, bars 3 4 2 0)
+    ∷ (on F, blames (removeRole 3 4) 4 2 0)
+    -- a senior and a junior that offend; juniors in two sets
+    ∷ (on P, blames (addEdge 2 3 0 I) 3 1 0)
+    ∷ (on P, blames (addBetween 0 4 0b1000 0 0b0001 0) 3 1 0)
+    ∷ (on P, blames (addBetween 0 4 0 0 0b1000 0b0001) 3 1 0)
+    ∷ (on P, blames (addBetween 0 4 0 0 0b0001 0b1000) 0 3 0)
     ∷ []

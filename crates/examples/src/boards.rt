@@ -2,7 +2,7 @@
 ghost use mathlib.Core.Path.{_≡_};
 ghost use Rattle.hierarchy.specs.Tables.{tables};
 ghost use Rattle.board.specs.Boards.{tablesOf};
-ghost use Rattle.examples.specs.Boards.{P, W, L, E, command, addRole, removeRole, addEdge, removeEdge, changeEdge};
+ghost use Rattle.examples.specs.Boards.{P, W, L, E, F, command, addBetween, addRole, removeRole, addEdge, removeEdge, changeEdge};
 use board::Board;
 use board::Command;
 use hierarchy::working::work_out;
@@ -72,16 +72,52 @@ pub(crate) fn e() -> Board
     of(0b11, i, [0u64; Board::ROLES])
 }
 
-fn command(
-    code: u32,
+// 0 I 1, 1 A 3, 3 I 4, 0 I 4
+pub(crate) fn f() -> Board
+    ensures { λ r. ⌜ tablesOf r ≡ F ⌝ }
+{
+    let mut i = [0u64; Board::ROLES];
+    i[0] = 0b10010;
+    i[3] = 0b10000;
+    let mut a = [0u64; Board::ROLES];
+    a[1] = 0b01000;
+    of(0b11011, i, a)
+}
+
+// A role added between seniors and juniors,
+pub(crate) fn add_between(
     actor: u32,
     role: u32,
-    junior: u32,
-    kind: u32,
     a_seniors: u64,
     i_seniors: u64,
+    a_juniors: u64,
+    i_juniors: u64,
 ) -> Command
-    ensures { λ r. ⌜ r ≡ command code actor role junior kind «a_seniors» «i_seniors» ⌝ }
+    ensures { λ r. ⌜ r ≡ addBetween actor role «a_seniors» «i_seniors» «a_juniors» «i_juniors» ⌝ }
+{
+    Command {
+        code: 1,
+        actor,
+        role,
+        junior: 0,
+        kind: 0,
+        a_seniors,
+        i_seniors,
+        a_juniors,
+        i_juniors,
+    }
+}
+
+// and under seniors alone.
+pub(crate) fn add_role(actor: u32, role: u32, a_seniors: u64, i_seniors: u64) -> Command
+    ensures { λ r. ⌜ r ≡ addRole actor role «a_seniors» «i_seniors» ⌝ }
+{
+    add_between(actor, role, a_seniors, i_seniors, 0, 0)
+}
+
+// The other commands, which name no sets.
+fn command(code: u32, actor: u32, role: u32, junior: u32, kind: u32) -> Command
+    ensures { λ r. ⌜ r ≡ command code actor role junior kind ⌝ }
 {
     Command {
         code,
@@ -89,39 +125,33 @@ fn command(
         role,
         junior,
         kind,
-        a_seniors,
-        i_seniors,
+        a_seniors: 0,
+        i_seniors: 0,
         a_juniors: 0,
         i_juniors: 0,
     }
 }
 
-pub(crate) fn add_role(actor: u32, role: u32, a_seniors: u64, i_seniors: u64) -> Command
-    ensures { λ r. ⌜ r ≡ addRole actor role «a_seniors» «i_seniors» ⌝ }
-{
-    command(1, actor, role, 0, 0, a_seniors, i_seniors)
-}
-
 pub(crate) fn remove_role(actor: u32, role: u32) -> Command
     ensures { λ r. ⌜ r ≡ removeRole actor role ⌝ }
 {
-    command(2, actor, role, 0, 0, 0, 0)
+    command(2, actor, role, 0, 0)
 }
 
 pub(crate) fn add_edge(actor: u32, senior: u32, junior: u32, kind: u32) -> Command
     ensures { λ r. ⌜ r ≡ addEdge actor senior junior kind ⌝ }
 {
-    command(3, actor, senior, junior, kind, 0, 0)
+    command(3, actor, senior, junior, kind)
 }
 
 pub(crate) fn remove_edge(actor: u32, senior: u32, junior: u32, kind: u32) -> Command
     ensures { λ r. ⌜ r ≡ removeEdge actor senior junior kind ⌝ }
 {
-    command(4, actor, senior, junior, kind, 0, 0)
+    command(4, actor, senior, junior, kind)
 }
 
 pub(crate) fn change_edge(actor: u32, senior: u32, junior: u32, kind: u32) -> Command
     ensures { λ r. ⌜ r ≡ changeEdge actor senior junior kind ⌝ }
 {
-    command(5, actor, senior, junior, kind, 0, 0)
+    command(5, actor, senior, junior, kind)
 }

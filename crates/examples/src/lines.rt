@@ -86,6 +86,39 @@ fn members(b: Board, a: u32) {
     }
 }
 
+// Why not: the cause, and with cause 2 the role in the way.
+fn reason(cause: u8, way: u8) {
+    text(b", cause ");
+    number(cause as u32);
+    if cause == 2 {
+        text(b", role ");
+        number(way as u32);
+        text(b" in the way");
+    }
+}
+
+// Whether r is in the scope of a.
+pub(crate) fn in_scope(name: &[u8], b: Board, a: u32, r: u32) {
+    text(name);
+    text(b": ");
+    number(r);
+    text(b" in the scope of ");
+    number(a);
+    text(b": ");
+    let s = questions::scope(b, a, r);
+    if s.number != 0 {
+        refused(s.number);
+        return;
+    }
+    if s.yes {
+        text(b"yes\n");
+        return;
+    }
+    text(b"no");
+    reason(s.cause, s.way);
+    text(b"\n");
+}
+
 // The scope of a, and its size in brackets.
 pub(crate) fn scope(name: &[u8], b: Board, a: u32) {
     text(name);
@@ -134,11 +167,17 @@ pub(crate) fn steps(name: &[u8], b: Board, r: u32) {
 
 // ---- commands
 
-// Runs the command, writes its number and gives back the board.
+// Runs the command, writes its number, with 6 who offends and why, and gives back the board.
 fn run(b: Board, c: Command) -> Board {
     let o = step(b, c);
+    let a = o.answer;
     text(b": ");
-    number(o.number as u32);
+    number(a.number as u32);
+    if a.number == 6 {
+        text(b", role ");
+        number(a.who as u32);
+        reason(a.cause, a.way);
+    }
     text(b"\n");
     o.board
 }
@@ -167,6 +206,18 @@ pub(crate) fn on_edge(name: &[u8], b: Board, c: Command) -> Board {
     run(b, c)
 }
 
+// That a role is added, and its seniors.
+fn adds(name: &[u8], c: Command) {
+    actor(name, c.actor);
+    text(b" adds role ");
+    number(c.role);
+    text(b", A-seniors");
+    roles(c.a_seniors);
+    text(b", I-seniors");
+    roles(c.i_seniors);
+}
+
+// Adds a role that has seniors alone.
 pub(crate) fn add_role(
     name: &[u8],
     b: Board,
@@ -175,14 +226,19 @@ pub(crate) fn add_role(
     a_seniors: u64,
     i_seniors: u64,
 ) -> Board {
-    actor(name, a);
-    text(b" adds role ");
-    number(role);
-    text(b", A-seniors");
-    roles(a_seniors);
-    text(b", I-seniors");
-    roles(i_seniors);
-    run(b, boards::add_role(a, role, a_seniors, i_seniors))
+    let c = boards::add_role(a, role, a_seniors, i_seniors);
+    adds(name, c);
+    run(b, c)
+}
+
+// Adds a role between seniors and juniors.
+pub(crate) fn add_between(name: &[u8], b: Board, c: Command) -> Board {
+    adds(name, c);
+    text(b", A-juniors");
+    roles(c.a_juniors);
+    text(b", I-juniors");
+    roles(c.i_juniors);
+    run(b, c)
 }
 
 pub(crate) fn remove_role(name: &[u8], b: Board, a: u32, role: u32) -> Board {

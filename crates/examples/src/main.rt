@@ -1,8 +1,10 @@
 // Runs every example of document 01, and those of the requests, through the board's own functions and writes a line for each: what was asked, then what came
 // back. `stdout` has the same lines, worked out by hand from the documents.
+use boards::add_between;
 use boards::add_edge;
 use boards::change_edge;
 use boards::e;
+use boards::f;
 use boards::l;
 use boards::p;
 use boards::remove_edge;
@@ -127,6 +129,31 @@ fn last_part() {
     lines::same(b"P with 0 I 2, and that removed again, is P", less, b);
 }
 
+// Request 3: which role is in the way.
+fn in_the_way() {
+    let b = w();
+    lines::on_edge(b"W", b, change_edge(4, 4, 5, 1));
+    let d = f();
+    lines::sound(b"F", d);
+    lines::remove_role(b"F", d, 3, 4);
+    lines::in_scope(b"W", b, 4, 5);
+    lines::in_scope(b"W", b, 4, 3);
+    lines::in_scope(b"W", b, 4, 4);
+    lines::in_scope(b"F", d, 3, 4);
+}
+
+// Request 3: of several that offend the first is named, seniors before juniors, set by set, in each the lowest.
+fn first_that_offends() {
+    let b = p();
+    lines::on_edge(b"P", b, add_edge(2, 3, 0, 1));
+    lines::add_between(b"P", b, add_between(0, 4, 0b1000, 0, 0b0001, 0));
+    lines::add_between(b"P", b, add_between(0, 4, 0, 0, 0b1000, 0b0001));
+    lines::add_between(b"P", b, add_between(0, 4, 0, 0, 0b0001, 0b1000));
+    let d = w();
+    lines::add_role(b"W", d, 4, 6, 0b101100, 0);
+    lines::add_role(b"W", d, 4, 6, 0b100000, 0b000100);
+}
+
 fn main() {
     questions_on_p();
     changes_on_p();
@@ -137,4 +164,6 @@ fn main() {
     range_of_kinds();
     parts_of_an_edge();
     last_part();
+    in_the_way();
+    first_that_offends();
 }

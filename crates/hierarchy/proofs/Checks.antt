@@ -2,12 +2,12 @@
 use mathlib.Core.Path.{_≡_, refl, sym, _∙_, ap}
 use mathlib.Core.Logic.{_⊎_, inl, inr, ⊎-elim, _↔_, dite}
 use mathlib.Core.Bool.{Bool, true, false, not, _&&_, _||_, Bool·beq, false≢true}
-use Prim.Native.Nat.{ℕ, zero, suc, _<_}
+use Prim.Native.Nat.{ℕ, zero, suc, _≤_, _<_}
 use native.Mathlib.Nat.{not-suc-le-zero, le-refl}
 use native.Mathlib.Decide.{ℕ-discrete}
 use native.Mathlib.Omega.{arith}
-use lib.Dec.{eqb, ltb}
-use borrow.Author.Tests.{eqb-true, eq-eqb, ltb-true, lt-ltb}
+use lib.Dec.{eqb, leb, ltb}
+use borrow.Author.Tests.{eqb-true, eq-eqb, ltb-true, lt-ltb, leb-true, le-leb}
 use Rattle.sets.proofs.Bools.{or-cases, or-left, or-right, and-left, and-right, and-both}
 use Rattle.hierarchy.specs.Compute.{all, any}
 
@@ -74,7 +74,13 @@ eq-is m n = (eqb-true m n, eq-eqb m n)
 pub lt-is : (m n : ℕ) → (ltb m n ≡ true) ↔ (m < n)
 lt-is m n = (ltb-true m n, lt-ltb m n)
 
+pub le-is : (m n : ℕ) → (leb m n ≡ true) ↔ (m ≤ n)
+le-is m n = (leb-true m n, le-leb m n)
+
 -- two tests that agree
+pub same-test : {p q : Bool} → p ≡ q → (p ≡ true) ↔ (q ≡ true)
+same-test e = (λ h. sym e ∙ h, λ h. e ∙ h)
+
 pub beq-same : (p q : Bool) → Bool·beq p q ≡ true → p ≡ q
 beq-same true true e = refl
 beq-same true false e = absurd (false≢true e)

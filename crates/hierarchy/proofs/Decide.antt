@@ -1,6 +1,6 @@
--- Each word of document 01 is decided by its computed function. Assumes nothing.
+-- Each word of document 01, and of request 3, is decided by its computed function. Assumes nothing.
 use mathlib.Core.Path.{_≡_, refl, sym, _∙_, ap, subst}
-use mathlib.Core.Logic.{⊎-elim, _≢_, _↔_, Iff·rfl, Iff·symm, Iff·trans}
+use mathlib.Core.Logic.{_⊎_, inl, inr, ⊎-elim, _≢_, _↔_, Iff·rfl, Iff·symm, Iff·trans}
 use mathlib.Core.Bool.{true, _&&_}
 use mathlib.Core.List.{List, [], _∷_}
 use Prim.Native.Nat.{ℕ, zero, suc, _^_, _≤_, _<_}
@@ -14,11 +14,11 @@ use Rattle.sets.proofs.Bools.{decided, lt-or-ge, false-no}
 use Rattle.sets.proofs.Digits.{bit-or, bit-zero}
 use Rattle.sets.proofs.Laws.{bit-lt, in-setOf}
 use Rattle.hierarchy.specs.Tables.{Tables, row, Live, Shaped, kind}
-use Rattle.hierarchy.specs.Words.{Way, Reaches, Derives, Chain, Scope, Administrator, LineManager, Joined, Loops, Managed, Sound}
-use Rattle.hierarchy.specs.Words.{Way.edge, Way.then, Chain.stop, Chain.step}
+use Rattle.hierarchy.specs.Words.{Way, Reaches, Derives, Chain, Related, Scope, Administrator, InTheWay, OutOfScope, LineManager, Joined, Loops, Managed, Sound}
+use Rattle.hierarchy.specs.Words.{Way.edge, Way.then, Chain.stop, Chain.step, OutOfScope.not-derived, OutOfScope.in-the-way}
 use Rattle.hierarchy.specs.Views.{LiveLoops}
-use Rattle.hierarchy.specs.Compute.{all, any, close, derived, derives?, scope?, admin?, manager?, unite, reaches?, loops?, joined?, managed?, shaped?, sound?}
-use Rattle.hierarchy.proofs.Checks.{all-is, any-is, and-is, or-is, if-is, unless-is, not-is, eq-is, lt-is}
+use Rattle.hierarchy.specs.Compute.{all, any, close, derived, derives?, related?, scope?, unrelated?, inTheWay?, outOfScope?, admin?, manager?, unite, reaches?, loops?, joined?, managed?, shaped?, sound?}
+use Rattle.hierarchy.proofs.Checks.{all-is, any-is, and-is, or-is, if-is, unless-is, not-is, eq-is, lt-is, le-is, same-test}
 use Rattle.hierarchy.proofs.Derive.{edge-entry, derives↔descends}
 use Rattle.hierarchy.proofs.Closure.{Led, close-fits, close-is, close-one}
 
@@ -37,8 +37,7 @@ both t = unite (t .i) (t .a)
 edge-is : (t : Tables) (x y : ℕ) → (y isIn row (both t) x) ↔ (kind t x y ≢ 0)
 edge-is t x y =
     let e = ap (λ s. bit s y) (row-unite (t .i) (t .a) x) ∙ bit-or (row (t .i) x) (row (t .a) x) y in
-    let i = or-is Iff·rfl Iff·rfl in
-    Iff·trans (λ h. i .0 (sym e ∙ h), λ w. e ∙ i .1 w) (Iff·symm (edge-entry t x y))
+    Iff·trans (same-test e) (Iff·trans (or-is Iff·rfl Iff·rfl) (Iff·symm (edge-entry t x y)))
 
 leads : {t : Tables} {x y k : ℕ} → Way t x y k → Led (both t) (row (both t) x) y
 leads {t} {x} {y} (edge h) = record { start = y; member = edge-is t x y .1 h; chain = stop }
@@ -47,6 +46,19 @@ leads {t} {x} (then {y = z} h w) = let l = leads w in record { start = z; member
 led : (t : Tables) (x : ℕ) {y z : ℕ} → z isIn row (both t) x → Chain (both t) z y → Reaches t x y
 led t x {z = z} h stop = (kind t x z, edge (edge-is t x z .0 h))
 led t x {z = z} h (step g c) = let w = led t z g c in (_, then (edge-is t x z .0 h) (w .1))
+
+-- ---- why a role is outside a scope, by its cases
+
+abbrev pub Out : Type 0 → (ℕ → Type 0) → ℕ → ℕ → Type 0
+Out D W cause way = ((cause ≡ 1) × ((way ≡ 0) × (D → ⊥))) ⊎ ((cause ≡ 2) × (D × W way))
+
+pub out-cases : {t : Tables} {a r cause way : ℕ} → OutOfScope t a r cause way → Out (Derives t a r) (InTheWay t a r) cause way
+out-cases (not-derived n) = inl (refl, (refl, n))
+out-cases (in-the-way d w) = inr (refl, (d, w))
+
+out-of : {t : Tables} {a r cause way : ℕ} → Out (Derives t a r) (InTheWay t a r) cause way → OutOfScope t a r cause way
+out-of {t} {a} {r} {way = way} (inl p) = subst (λ c. OutOfScope t a r c way) (sym (p .0)) (subst (OutOfScope t a r 1) (sym (p .1 .0)) (not-derived (p .1 .1)))
+out-of {t} {a} {r} {way = way} (inr p) = subst (λ c. OutOfScope t a r c way) (sym (p .0)) (in-the-way (p .1 .0) (p .1 .1))
 
 -- ---- on tables in their shape
 
@@ -72,12 +84,32 @@ module _ {t : Tables} (shaped : Shaped t) where
   unfolding derives?
   derives-is x y = Iff·trans (and-is Iff·rfl (λ l. and-is Iff·rfl (λ m. derived-is x y l m))) (λ h. h .1 .1, λ d. (d .from, (d .to, d)))
 
+  related-is : (a x : ℕ) → (related? t a x ≡ true) ↔ Related t a x
+  related-is a x = or-is (derives-is x a) (derives-is a x)
+
   pub scope-is : (a r : ℕ) → (scope? t a r ≡ true) ↔ Scope t a r
   unfolding scope?
-  scope-is a r = Iff·trans (and-is (derives-is a r) (λ _. all-is 64 (λ x. if-is (derives-is x r) (or-is (derives-is x a) (derives-is a x))))) (
+  scope-is a r = Iff·trans (and-is (derives-is a r) (λ _. all-is 64 (λ x. if-is (derives-is x r) (related-is a x)))) (
     λ h. record { derives = h .0; rivals = λ x d. h .1 x (live-lt (d .from)) d },
     λ s. (s .derives, λ x _. s .rivals x),
   )
+
+  unrelated-is : (a r x : ℕ) → (unrelated? t a r x ≡ true) ↔ (Derives t x r × (Related t a x → ⊥))
+  unrelated-is a r x = and-is (derives-is x r) (λ _. not-is (related-is a x))
+
+  pub in-the-way-is : (a r x : ℕ) → (inTheWay? t a r x ≡ true) ↔ InTheWay t a r x
+  unfolding inTheWay?
+  in-the-way-is a r x = Iff·trans (and-is (unrelated-is a r x) (λ _. all-is 64 (λ y. if-is (unrelated-is a r y) (le-is x y)))) (
+    λ h. record { derives = h .0 .0; unrelated = h .0 .1; lowest = λ y d n. h .1 y (live-lt (d .from)) (d, n) },
+    λ w. ((w .derives, w .unrelated), λ y _ p. w .lowest y (p .0) (p .1)),
+  )
+
+  pub out-of-scope-is : (a r cause way : ℕ) → (outOfScope? t a r cause way ≡ true) ↔ OutOfScope t a r cause way
+  unfolding outOfScope?
+  out-of-scope-is a r cause way = Iff·trans (or-is
+      (and-is (eq-is cause 1) (λ _. and-is (eq-is way 0) (λ _. not-is (derives-is a r))))
+      (and-is (eq-is cause 2) (λ _. and-is (derives-is a r) (λ _. in-the-way-is a r way))))
+      (out-of, out-cases)
 
   pub admin-is : (a r : ℕ) → (admin? t a r ≡ true) ↔ Administrator t a r
   unfolding admin?
@@ -138,6 +170,9 @@ module _ {t : Tables} (shaped : Shaped t) where
 
   pub derives-dec : (x y : ℕ) → Dec (Derives t x y)
   derives-dec x y = decided (derives? t x y) (derives-is x y)
+
+  pub related-dec : (a x : ℕ) → Dec (Related t a x)
+  related-dec a x = decided (related? t a x) (related-is a x)
 
   pub scope-dec : (a r : ℕ) → Dec (Scope t a r)
   scope-dec a r = decided (scope? t a r) (scope-is a r)

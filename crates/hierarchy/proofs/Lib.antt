@@ -9,6 +9,7 @@ pub mod Decide
 pub mod Admin
 pub mod ClimbLaws
 pub mod ViewLaws
+pub mod Bars
 pub mod ManagerLaws
 pub mod Rows
 pub mod Sift

@@ -1,7 +1,7 @@
 -- Scopes and line managers off the views: what each function's turn or return shows. Assumes nothing.
 use mathlib.Core.Path.{_≡_, refl, sym, ap, _∙_, subst}
 use mathlib.Core.Bool.{Bool, true, false, not, _&&_, _||_, and-false, false≢true}
-use mathlib.Core.Logic.{_⊎_, inl, inr, ⊎-elim, ⊎-map, _↔_, _≢_, dite, Iff·trans}
+use mathlib.Core.Logic.{_⊎_, inl, inr, ⊎-elim, ⊎-map, _↔_, _≢_, dite, Iff·rfl, Iff·trans}
 use mathlib.Core.List.{List}
 use Prim.Native.Nat.{ℕ, _<_, _≤_, suc-le-suc}
 use native.Mathlib.Nat.{le-trans}
@@ -9,16 +9,17 @@ use native.Mathlib.Decide.{ℕ-discrete}
 use native.Mathlib.Omega.{arith}
 use lib.Count.{ones}
 use lib.ListN.{getD, length, length-set, set, replicate, List·getD-eq-default}
-use Rattle.sets.specs.Sets.{bit, _isIn_, _areIn_, same?, NoRole}
+use Rattle.sets.specs.Sets.{bit, _isIn_, _areIn_, same?, LowestRole, NoRole}
 use Rattle.sets.proofs.Bools.{true-or-false, lt-or-ge, or-cases, or-left, or-right, and-left, and-right, and-both, false-no, not-so}
 use Rattle.sets.proofs.Digits.{bit-zero}
 use Rattle.sets.proofs.Laws.{same-eq, same-self, ones-mono}
 use Rattle.sets.proofs.Members.{drawn-part, drawn-less, Taken, taken-part, taken-kept, drawn, drawn-cases}
 use Rattle.hierarchy.specs.Tables.{Tables, row}
 use Rattle.hierarchy.specs.Words.{Reaches, Derives, Administrator, Managed}
-use Rattle.hierarchy.specs.Views.{AreViews, ScopeBy, managerAt, AreManagers}
+use Rattle.hierarchy.specs.Views.{AreViews, RelatedBy, ScopeBy, InTheWayBy, managerAt, AreManagers}
 use Rattle.hierarchy.specs.Engine.{Above, AdminsOf, NearestIs, Orderly, Managers}
 use Rattle.hierarchy.proofs.Admin.{reaches-trans, derives-refl, derives-reaches, admin-live, admins-related, no-return}
+use Rattle.hierarchy.proofs.Checks.{and-is, or-is, not-is, same-test}
 use Rattle.hierarchy.proofs.Rows.{entry-of, entry-set, one-entry}
 
 -- a no that is right
@@ -39,6 +40,21 @@ scope-test {down} {up} {a} {r} near w d u near-is test = (
   λ s. test .1 (λ x m. near-is x ∙ ⊎-elim (or-left (bit (row up a) x) (bit (row down a) x)) (or-right (bit (row up a) x) (bit (row down a) x)) (s .rivals x m)),
 )
 
+-- and of what bars r: the lowest that is left of whatever derives r
+module _ {down up : List ℕ} {a r : ℕ} (near rest : ℕ) (near-is : (x : ℕ) → bit near x ≡ (bit (row up a) x || bit (row down a) x))
+    (rest-is : (x : ℕ) → bit rest x ≡ (bit (row up r) x && not (bit near x))) where
+  pub bar-none : r isIn row down a → a isIn row up r → NoRole rest → ScopeBy down up a r
+  bar-none d u empty = scope-test near true d u near-is (
+    λ _ x m. ⊎-elim (λ e. e) (λ n. absurd (false-no (empty .none x) (rest-is x ∙ and-both (bit (row up r) x) (not (bit near x)) m (ap not n)))) (true-or-false (bit near x)),
+    λ _. refl,
+  ) .0 refl
+
+  pub bar-way : {x : ℕ} → LowestRole rest x → InTheWayBy down up a r x
+  bar-way {x} l = let w = left x .0 (l .member) in record { derives = w .0; unrelated = w .1; lowest = λ y m n. l .least y (left y .1 (m, n)) }
+    where
+      left : (y : ℕ) → (y isIn rest) ↔ ((y isIn row up r) × (RelatedBy down up a y → ⊥))
+      left y = Iff·trans (same-test (rest-is y)) (and-is Iff·rfl (λ _. not-is (Iff·trans (same-test (near-is y)) (or-is Iff·rfl Iff·rfl))))
+
 -- r goes from s
 gone : (s r s′ : ℕ) → r < 64 → ((a : ℕ) → bit s′ a ≡ (bit s a && not (same? r a))) → (a : ℕ) → a isIn s′ → a ≢ r
 gone s r s′ l h a m q = false-no (h a ∙ ap (λ (p : Bool). bit s a && not p) (ap (same? r) q ∙ same-self r l) ∙ and-false (bit s a)) m
@@ -49,14 +65,11 @@ stays s r s′ h a m n = h a ∙ and-both (bit s a) (not (same? r a)) m (ap not 
 -- ---- administrators
 
 module _ (down up : List ℕ) where
-  abbrev Related : ℕ → ℕ → Type 0
-  Related a x = (a isIn row up x) ⊎ (a isIn row down x)
-
   -- of the first set those are left that are above or below all of s that are not in rest
   pub record Narrowed (s first found rest : ℕ) : Type 0 where
     pub part : rest areIn s
-    pub only : (a : ℕ) → a isIn found → (a isIn first) × ((x : ℕ) → x isIn s → (x isIn rest) ⊎ Related a x)
-    pub every : (a : ℕ) → a isIn first → ((x : ℕ) → x isIn s → Related a x) → a isIn found
+    pub only : (a : ℕ) → a isIn found → (a isIn first) × ((x : ℕ) → x isIn s → (x isIn rest) ⊎ RelatedBy down up x a)
+    pub every : (a : ℕ) → a isIn first → ((x : ℕ) → x isIn s → RelatedBy down up x a) → a isIn found
 
   pub narrow-start : (s first : ℕ) → Narrowed s first first s
   narrow-start s first = record { part = λ x e. e; only = λ a e. (e, λ x m. inl m); every = λ a e _. e }
@@ -69,7 +82,7 @@ module _ (down up : List ℕ) where
     only = λ a e.
         let o = inv .only a (and-left (bit found a) (bit near a) (sym (found-is a) ∙ e)) in
         let n = or-cases (bit (row up x) a) (bit (row down x) a) (sym (near-is a) ∙ and-right (bit found a) (bit near a) (sym (found-is a) ∙ e)) in
-        (o .0, λ y m. ⊎-elim (λ k. ⊎-map (λ z. z) (λ q. subst (Related a) (sym q) n) (taken-kept turn y k)) (λ k. inr k) (o .1 y m));
+        (o .0, λ y m. ⊎-elim (λ k. ⊎-map (λ z. z) (λ q. subst (λ z. RelatedBy down up z a) (sym q) n) (taken-kept turn y k)) (λ k. inr k) (o .1 y m));
     every = λ a e f. found-is a ∙ and-both (bit found a) (bit near a) (inv .every a e f)
         (near-is a ∙ ⊎-elim (or-left (bit (row up x) a) (bit (row down x) a)) (or-right (bit (row up x) a) (bit (row down x) a)) (f x (inv .part x (turn .lowest .member))));
   }

@@ -8,23 +8,26 @@ use lib.Seq.{ext-getD}
 use Rattle.sets.specs.Sets.{_isIn_}
 use Rattle.sets.proofs.Laws.{same-members}
 use Rattle.hierarchy.specs.Tables.{Tables, row}
-use Rattle.hierarchy.specs.Words.{Derives, Scope, Administrator}
-use Rattle.hierarchy.specs.Views.{AreViews, Turned, ScopeBy, AdminBy}
+use Rattle.hierarchy.specs.Words.{Derives, Related, Scope, Administrator}
+use Rattle.hierarchy.specs.Views.{AreViews, Turned, RelatedBy, ScopeBy, AdminBy}
 
 -- ---- read off views of t
 
 module _ {t : Tables} {down up : List ℕ} (views : AreViews t down up) where
-  -- Scope and administrator are the same read off the views.
+  -- Being related, scope and administrator are the same read off the views.
+  pub related-by : {a x : ℕ} → RelatedBy down up a x ↔ Related t a x
+  related-by {a} {x} = (⊎-map (views .up-is x a .0) (views .down-is a x .0), ⊎-map (views .up-is x a .1) (views .down-is a x .1))
+
   pub scope-by : {a r : ℕ} → ScopeBy down up a r ↔ Scope t a r
   scope-by {a} {r} = (
     λ s. record {
       derives = views .down-is a r .0 (s .derives);
-      rivals = λ x d. ⊎-map (views .up-is x a .0) (views .down-is a x .0) (s .rivals x (views .up-is x r .1 d));
+      rivals = λ x d. related-by .0 (s .rivals x (views .up-is x r .1 d));
     },
     λ s. record {
       derives = views .down-is a r .1 (s .derives);
       derived = views .up-is a r .1 (s .derives);
-      rivals = λ x m. ⊎-map (views .up-is x a .1) (views .down-is a x .1) (s .rivals x (views .up-is x r .0 m));
+      rivals = λ x m. related-by .1 (s .rivals x (views .up-is x r .0 m));
     },
   )
 

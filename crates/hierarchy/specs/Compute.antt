@@ -4,7 +4,7 @@ use mathlib.Core.Bool.{Bool, true, false, cond, not, _&&_, _||_}
 use mathlib.Core.List.{List, [], _∷_}
 use Prim.Native.Nat.{ℕ, zero, suc, _^_}
 use lib.Bits.{bitOr}
-use lib.Dec.{eqb, ltb}
+use lib.Dec.{eqb, leb, ltb}
 use lib.ListN.{length}
 use Rattle.sets.specs.Sets.{bit}
 use Rattle.hierarchy.specs.Tables.{Tables, row, kind}
@@ -38,8 +38,21 @@ derived t x = close (t .i) 64 (close (t .a) 64 (2 ^ x))
 unfoldable pub derives? : Tables → ℕ → ℕ → Bool
 derives? t x y = bit (t .live) x && (bit (t .live) y && bit (derived t x) y)
 
+abbrev pub related? : Tables → ℕ → ℕ → Bool
+related? t a x = derives? t x a || derives? t a x
+
 unfoldable pub scope? : Tables → ℕ → ℕ → Bool
-scope? t a r = derives? t a r && all 64 (λ x. not (derives? t x r) || (derives? t x a || derives? t a x))
+scope? t a r = derives? t a r && all 64 (λ x. not (derives? t x r) || related? t a x)
+
+-- x derives r and is unrelated to a
+abbrev pub unrelated? : Tables → ℕ → ℕ → ℕ → Bool
+unrelated? t a r x = derives? t x r && not (related? t a x)
+
+unfoldable pub inTheWay? : Tables → ℕ → ℕ → ℕ → Bool
+inTheWay? t a r x = unrelated? t a r x && all 64 (λ y. not (unrelated? t a r y) || leb x y)
+
+unfoldable pub outOfScope? : Tables → ℕ → ℕ → ℕ → ℕ → Bool
+outOfScope? t a r cause way = (eqb cause 1 && (eqb way 0 && not (derives? t a r))) || (eqb cause 2 && (derives? t a r && inTheWay? t a r way))
 
 unfoldable pub admin? : Tables → ℕ → ℕ → Bool
 admin? t a r = scope? t a r && not (eqb a r)

@@ -1,11 +1,11 @@
 -- The values that are worked out once a board and kept with it: row x of `down` is the set of what x derives, row y of `up` the set of
--- what derives y, and the line managers. The words of scope again, read off the two tables; `Rattle.hierarchy.proofs.ViewLaws` says that
--- they are the same.
+-- what derives y, and the line managers. The words of scope again, read off the two tables; `ViewLaws` and `Bars` in
+-- `Rattle.hierarchy.proofs` say that they are the same.
 use mathlib.Core.Path.{_≡_}
 use mathlib.Core.Bool.{cond}
 use mathlib.Core.Logic.{_≢_, _⊎_, _↔_}
 use mathlib.Core.List.{List, [], _∷_}
-use Prim.Native.Nat.{ℕ, zero, suc}
+use Prim.Native.Nat.{ℕ, zero, suc, _≤_}
 use lib.Dec.{eqb}
 use lib.ListN.{getD, length, replicate}
 use Rattle.sets.specs.Sets.{_isIn_}
@@ -42,11 +42,30 @@ pub record Turned (live : ℕ) (down up : List ℕ) : Type 0 where
   pub up-is : (x y : ℕ) → (x isIn row up y) ↔ ((x isIn live) × (y isIn row down x))
   pub up-rows : length up ≡ 64
 
+-- x is related to a
+abbrev pub RelatedBy : List ℕ → List ℕ → ℕ → ℕ → Type 0
+RelatedBy down up a x = (x isIn row up a) ⊎ (x isIn row down a)
+
 -- r is in the scope of a
 pub record ScopeBy (down up : List ℕ) (a r : ℕ) : Type 0 where
   pub derives : r isIn row down a
   pub derived : a isIn row up r
-  pub rivals : (x : ℕ) → x isIn row up r → (x isIn row up a) ⊎ (x isIn row down a)
+  pub rivals : (x : ℕ) → x isIn row up r → RelatedBy down up a x
+
+-- x is in a's way to r
+pub record InTheWayBy (down up : List ℕ) (a r x : ℕ) : Type 0 where
+  pub derives : x isIn row up r
+  pub unrelated : RelatedBy down up a x → ⊥
+  pub lowest : (y : ℕ) → y isIn row up r → (RelatedBy down up a y → ⊥) → x ≤ y
+
+-- why r is not in the scope of a
+pub data OutOfScopeBy (down up : List ℕ) (a r : ℕ) : ℕ → ℕ → Type 0 where
+  not-derived : ((r isIn row down a) × (a isIn row up r) → ⊥) → OutOfScopeBy down up a r 1 0
+  in-the-way : {x : ℕ} → r isIn row down a → a isIn row up r → InTheWayBy down up a r x → OutOfScopeBy down up a r 2 x
+
+-- what bars r from the scope of a, if anything does: where r is in it, cause and role are 0
+abbrev pub BarBy : List ℕ → List ℕ → ℕ → ℕ → ℕ → ℕ → Type 0
+BarBy down up a r cause way = (ScopeBy down up a r × ((cause ≡ 0) × (way ≡ 0))) ⊎ OutOfScopeBy down up a r cause way
 
 -- a is an administrator of r
 pub record AdminBy (down up : List ℕ) (a r : ℕ) : Type 0 where

@@ -1,8 +1,8 @@
--- The words of document 01, parts "Roles, edges, paths" and "Scope and line manager", each as one definition.
+-- The words of document 01, parts "Roles, edges, paths" and "Scope and line manager", each as one definition, and the words of request 3.
 use mathlib.Core.Path.{_≡_}
 use mathlib.Core.Logic.{_≢_, _⊎_}
 use mathlib.Core.List.{List}
-use Prim.Native.Nat.{ℕ, suc}
+use Prim.Native.Nat.{ℕ, suc, _≤_}
 use Rattle.sets.specs.Sets.{_isIn_}
 use Rattle.hierarchy.specs.Tables.{Tables, row, Live, Shaped, kind, join}
 
@@ -37,15 +37,31 @@ pub record Splits (t : Tables) (x y : ℕ) : Type 0 where
 
 -- ---- scopes
 
--- Scope: a derives r, and whoever derives r is related to a, above it or below it (what derives anything is live)
+-- x is related to a: one of them derives the other, or they are one live role
+abbrev pub Related : Tables → ℕ → ℕ → Type 0
+Related t a x = Derives t x a ⊎ Derives t a x
+
+-- Scope: a derives r, and whoever derives r is related to a (what derives anything is live)
 pub record Scope (t : Tables) (a r : ℕ) : Type 0 where
   pub derives : Derives t a r
-  pub rivals : (x : ℕ) → Derives t x r → Derives t x a ⊎ Derives t a x
+  pub rivals : (x : ℕ) → Derives t x r → Related t a x
 
 -- Administrator: r is in the scope of a and is not a itself, which is strict scope
 pub record Administrator (t : Tables) (a r : ℕ) : Type 0 where
   pub scope : Scope t a r
   pub strict : a ≢ r
+
+-- request 3, the role in the way: the lowest that derives r and is unrelated to a (what derives anything is live)
+pub record InTheWay (t : Tables) (a r x : ℕ) : Type 0 where
+  pub derives : Derives t x r
+  pub unrelated : Related t a x → ⊥
+  pub lowest : (y : ℕ) → Derives t y r → (Related t a y → ⊥) → x ≤ y
+
+-- request 3, why r is not in the scope of a, by its cause and the role in the way: 1, a doesn't derive r; 2, it does, and a role is in the
+-- way, which may be role 0. Beside cause 1 there is none, and 0 stands for it.
+pub data OutOfScope (t : Tables) (a r : ℕ) : ℕ → ℕ → Type 0 where
+  not-derived : (Derives t a r → ⊥) → OutOfScope t a r 1 0
+  in-the-way : {x : ℕ} → Derives t a r → InTheWay t a r x → OutOfScope t a r 2 x
 
 -- Line manager: the administrator of r that all its other administrators derive
 pub record LineManager (t : Tables) (m r : ℕ) : Type 0 where

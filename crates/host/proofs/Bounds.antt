@@ -18,14 +18,14 @@ use Rattle.boardfile.proofs.Theorems.{sound-length}
 use Rattle.host.specs.Answers.{answer, placeOf}
 
 -- a scope has at most 64 roles: they are live
-pub count-small : {f : List ℕ} (a r : ℕ) {n count : ℕ} {said : Bool} → ScopeOnFile f a r n said count → count ≤ 64
+pub count-small : {f : List ℕ} (a r : ℕ) {n count cause way : ℕ} {said : Bool} → ScopeOnFile f a r n said count cause way → count ≤ 64
 count-small a r {n} {count} s = dite (ℕ-discrete n 0)
     (λ z.
     let w = s .done z in
-    let k = w .2 .1 in
+    let k = w .2 .0 .1 in
     let sound = w .1 .done refl .1 .sound in
     omega (arith, k .2, ones-mono (k .0) (w .0 .live) (λ x m. k .1 x .0 m .derives .to), ones-le 64 (w .0 .live) (sound .shaped .live-fits)))
-    (λ z. let e : count ≡ 0 = ap (λ (v : Bool × ℕ). v .1) (s .refused z) in omega arith)
+    (λ z. let e : count ≡ 0 = ap (λ (v : Bool × ℕ × ℕ × ℕ). v .1) (s .refused z) in omega arith)
 
 -- and so a climb has less than 64 steps
 pub steps-small : {f : List ℕ} (r : ℕ) {n steps : ℕ} → StepsOnFile f r n steps → steps < 64

@@ -1,5 +1,4 @@
--- Two outcomes that a contract of this crate allows coincide. (Of `board_apply` the board's own theorem says it, and `board_found`'s contract
--- is two equations.) Assumes nothing.
+-- Two outcomes that a contract of this crate allows coincide. (`board_found`'s contract is two equations.) Assumes nothing.
 use mathlib.Core.Path.{_≡_, refl, sym, ap, ap₂, _∙_}
 use mathlib.Core.Bool.{Bool}
 use mathlib.Core.Logic.{dite}
@@ -9,9 +8,11 @@ use native.Mathlib.Decide.{ℕ-discrete}
 use Rattle.sets.specs.Sets.{num}
 use Rattle.board.specs.declared.Board.{Board}
 use Rattle.board.specs.declared.Command.{Command}
+use Rattle.board.specs.declared.commands.Answer.{Answer}
+use Rattle.board.proofs.Settled.{decided-unique}
 use Rattle.boardfile.specs.declared.commands.Place.{Place}
 use Rattle.boardfile.proofs.Settled as F
-use Rattle.host.specs.Answers.{answer, placeNumber, placeOf, placeOfWriting, Checked, DerivesPacked, ScopePacked, managerOr64, ManagerPacked, StepsPacked, StretchPacked, Commanded, ReadPacked, WritePacked}
+use Rattle.host.specs.Answers.{answer, reason, answerOf, placeNumber, placeOf, placeOfWriting, Checked, DerivesPacked, ScopePacked, managerOr64, ManagerPacked, StepsPacked, StretchPacked, Commanded, Applied, ReadPacked, WritePacked}
 
 -- the same number and the same value make the same answer to a question
 asked : {m n v w r s : ℕ} → m ≡ n → v ≡ w → r ≡ answer m (placeOf m) v → s ≡ answer n (placeOf n) w → r ≡ s
@@ -26,8 +27,8 @@ module _ (f : List ℕ) {r s : ℕ} where
 
   pub scope-unique : (a x : ℕ) → ScopePacked f a x r → ScopePacked f a x s → r ≡ s
   scope-unique a x p q =
-      let k = F.scope-file-unique f a x (p .1 .1 .1) (q .1 .1 .1) in
-      asked (k .0) (ap (λ (v : Bool × ℕ). num (v .0) + 2 * v .1) (k .1)) (p .1 .1 .2) (q .1 .1 .2)
+      let k = F.scope-file-unique f a x (p .1 .1 .1 .1 .1) (q .1 .1 .1 .1 .1) in
+      p .1 .1 .1 .1 .2 ∙ ap₂ (λ (n : ℕ) (v : Bool × ℕ × ℕ × ℕ). answer n (placeOf n) (num (v .0) + 2 * v .1) + reason 0 (v .2) (v .3)) (k .0) (k .1) ∙ sym (q .1 .1 .1 .1 .2)
 
   pub manager-unique : (x : ℕ) → ManagerPacked f x r → ManagerPacked f x s → r ≡ s
   manager-unique x p q = let k = F.manager-file-unique f x (p .1 .1) (q .1 .1) in asked (k .0) (ap managerOr64 (k .1)) (p .1 .2) (q .1 .2)
@@ -44,9 +45,12 @@ module _ (f : List ℕ) {r s : ℕ} where
 pub commanded-unique : {f : List ℕ} {c : Command} {entry exit other : List ℕ} {r s : ℕ} → Commanded f c entry exit r → Commanded f c entry other s → (exit ≡ other) × (r ≡ s)
 commanded-unique p q =
     let k = F.command-unique (p .1 .1 .1) (q .1 .1 .1) in
-    (k .3, p .1 .1 .2 ∙ ap₂ (λ (n l : ℕ). answer n (placeNumber (p .0)) l) (k .1) (k .2) ∙ ap (λ (z : Place). answer (q .1 .0) (placeNumber z) (q .1 .1 .0)) (k .0) ∙ sym (q .1 .1 .2))
+    (k .3, p .1 .1 .2 ∙ ap₂ (λ (a : Answer) (l : ℕ). answerOf a (placeNumber (p .0)) l) (k .1) (k .2) ∙ ap (λ (z : Place). answerOf (q .1 .0) (placeNumber z) (q .1 .1 .0)) (k .0) ∙ sym (q .1 .1 .2))
 
 -- the answer, and the caller's board
+pub apply-unique : {entry exit other : Board} {c : Command} {r s : ℕ} → Applied entry c exit r → Applied entry c other s → (exit ≡ other) × (r ≡ s)
+apply-unique p q = let k = decided-unique (p .1) (q .1) in (k .1, p .2 ∙ ap (λ (a : Answer). answerOf a 0 0) (k .0) ∙ sym (q .2))
+
 pub read-unique : {f : List ℕ} {entry exit other : Board} {r s : ℕ} → ReadPacked f entry exit r → ReadPacked f entry other s → (exit ≡ other) × (r ≡ s)
 read-unique {f} p q =
     let e = F.check-unique f (p .0) (q .0) (p .1 .numbered) (q .1 .numbered) in (

@@ -1,5 +1,5 @@
--- What the functions for programs in C answer: one number that holds the refusal number, the place where it arose, and a value. These
--- parts are `boardfile`'s answer.
+-- What the functions for programs in C answer: one number that holds the refusal number, the place where it arose, and a value, and by
+-- request 3 who offends and why. These parts are `board`'s answer and `boardfile`'s.
 use mathlib.Core.Path.{_≡_}
 use mathlib.Core.Bool.{Bool, cond, _||_}
 use mathlib.Core.List.{List}
@@ -7,8 +7,10 @@ use Prim.Native.Nat.{ℕ, _+_, _*_}
 use lib.Dec.{eqb}
 use Rattle.sets.specs.Sets.{num}
 use Rattle.hierarchy.specs.First.{First}
+use Rattle.board.specs.Commands.{Decided}
 use Rattle.board.specs.declared.Board.{Board}
 use Rattle.board.specs.declared.Command.{Command}
+use Rattle.board.specs.declared.commands.Answer.{Answer}
 use Rattle.board.specs.declared.questions.Manager.{Manager}
 use Rattle.board.specs.declared.questions.Manager.the-variants.{Role, Nobody}
 use Rattle.boardfile.specs.declared.commands.Place.{Place}
@@ -18,6 +20,13 @@ use Rattle.boardfile.specs.Answers.{refusals, ReadInto, DerivesOnFile, ScopeOnF
 -- The number in bits 0 to 7, the place in bits 8 to 15, the value from bit 16 on.
 abbrev pub answer : ℕ → ℕ → ℕ → ℕ
 answer number place value = number + 256 * place + 65536 * value
+
+-- To this comes, of a command and of a scope: who offends in bits 32 to 39, the cause in bits 40 to 47, the role in the way in bits 48 to 55.
+abbrev pub reason : ℕ → ℕ → ℕ → ℕ
+reason who cause way = 4294967296 * who + 1099511627776 * cause + 281474976710656 * way
+
+abbrev pub answerOf : Answer → ℕ → ℕ → ℕ
+answerOf a place value = answer (a .number) place value + reason (a .who) (a .cause) (a .way)
 
 -- The places: 0 is the command or the question, and every answer that is done; 1 the file handed in; 2 the writing.
 abbrev pub placeNumber : Place → ℕ
@@ -43,10 +52,11 @@ Checked f r = (number : ℕ) × First (refusals f) number × (r ≡ answer numbe
 abbrev pub DerivesPacked : List ℕ → ℕ → ℕ → ℕ → Type 0
 DerivesPacked f x y r = (number : ℕ) × ((said : Bool) × DerivesOnFile f x y number said × (r ≡ answer number (placeOf number) (num said)))
 
--- the lowest bit is the answer on r, the others are the count
+-- the lowest bit is the answer on r, the others are the count; a no has its reason, and names no offender
 abbrev pub ScopePacked : List ℕ → ℕ → ℕ → ℕ → Type 0
 ScopePacked f a x r =
-    (number : ℕ) × ((said : Bool) × ((count : ℕ) × ScopeOnFile f a x number said count × (r ≡ answer number (placeOf number) (num said + 2 * count))))
+    (number : ℕ) × ((said : Bool) × ((count : ℕ) × ((cause : ℕ) × ((way : ℕ) × ScopeOnFile f a x number said count cause way
+    × (r ≡ answer number (placeOf number) (num said + 2 * count) + reason 0 cause way)))))
 
 -- the manager's role, and 64 for none
 abbrev pub managerOr64 : Manager → ℕ
@@ -68,9 +78,12 @@ StretchPacked f role r =
 
 abbrev pub Commanded : List ℕ → Command → List ℕ → List ℕ → ℕ → Type 0
 Commanded f c entry exit r =
-    (place : Place) × ((number : ℕ) × ((len : ℕ) × CommandAnswer f c entry exit place number len × (r ≡ answer number (placeNumber place) len)))
+    (place : Place) × ((a : Answer) × ((len : ℕ) × CommandAnswer f c entry exit place a len × (r ≡ answerOf a (placeNumber place) len)))
 
 -- ---- the caller's own board: `entry` before the call and `exit` after it
+
+abbrev pub Applied : Board → Command → Board → ℕ → Type 0
+Applied entry c exit r = (a : Answer) × Decided entry c a exit × (r ≡ answerOf a 0 0)
 
 abbrev pub ReadPacked : List ℕ → Board → Board → ℕ → Type 0
 ReadPacked f entry exit r = (number : ℕ) × ReadInto f entry exit number × (r ≡ answer number (placeOf number) 0)

@@ -6,14 +6,16 @@ mod answers;
 
 ghost use mathlib.Core.Path.{_≡_};
 ghost use Rattle.board.specs.Boards.{boardOf, foundingBoard};
-ghost use Rattle.board.specs.Commands.{Decided};
-ghost use Rattle.host.specs.Answers.{Checked, DerivesPacked, ScopePacked, ManagerPacked, StepsPacked, StretchPacked, Commanded, ReadPacked, WritePacked};
+ghost use Rattle.host.specs.Answers.{Applied, Checked, DerivesPacked, ScopePacked, ManagerPacked, StepsPacked, StretchPacked, Commanded, ReadPacked, WritePacked};
+use answers::answered;
+use answers::answered_at;
 use answers::manager_value;
 use answers::one_if;
 use answers::packed;
 use answers::place_number;
 use answers::place_of;
 use answers::place_of_writing;
+use answers::reason;
 use answers::scope_value;
 use board::Board;
 use board::Command;
@@ -69,12 +71,12 @@ fn read_packed(
     packed(q, place_of(q), 0)
 }
 
-// One command on the caller's own board. Place and value are 0, so the answer is the number.
+// One command on the caller's own board. Place and value are 0; with number 6 the answer says who offends and why.
 #[no_mangle]
 pub extern "C" fn board_apply(b: &mut Board, c: &Command) -> u64
-    ensures { λ r. ⌜ Decided (now (b .entry)) (now (c .entry)) r (now (b .exit)) ⌝ }
+    ensures { λ r. ⌜ Applied (now (b .entry)) (now (c .entry)) (now (b .exit)) r ⌝ }
 {
-    apply_in_place(b, *c) as u64
+    answered(apply_in_place(b, *c))
 }
 
 // The file of the caller's board, into `out` from place `at` on; the value is its length.
@@ -125,7 +127,7 @@ fn commanded(file: &[u8], c: Command, out: &mut [u8]) -> u64
 {
     let q = command(file, c, out);
     let place = q.place;
-    packed(q.number, place_number(place), q.len as u16)
+    answered_at(q.answer, place_number(place), q.len as u16)
 }
 
 // Whether the file can be read.
@@ -146,13 +148,14 @@ pub extern "C" fn board_derives(file: &[u8], x: u32, y: u32) -> u64
     packed(q.number, place_of(q.number), one_if(q.yes))
 }
 
-// Whether r is in the scope of a, and how many roles are.
+// Whether r is in the scope of a, why not, and how many roles are.
 #[no_mangle]
 pub extern "C" fn board_scope(file: &[u8], a: u32, r: u32) -> u64
     ensures { λ n. ⌜ ScopePacked (now (file .entry)) a r n ⌝ }
 {
     let q = scope(file, a, r);
-    packed(q.number, place_of(q.number), scope_value(q.yes, q.count))
+    let value = scope_value(q.yes, q.count);
+    packed(q.number, place_of(q.number), value) + reason(0, q.cause, q.way)
 }
 
 // The line manager of r, or none.

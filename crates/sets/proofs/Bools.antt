@@ -1,8 +1,9 @@
 -- From a test to what it says, and back. Assumes nothing.
-use mathlib.Core.Path.{_≡_, refl, sym, _∙_}
+use mathlib.Core.Path.{_≡_, refl, sym, _∙_, subst}
 use mathlib.Core.Bool.{Bool, true, false, _&&_, _||_, cond, true≢false, false≢true}
-use mathlib.Core.Logic.{_⊎_, inl, inr, ⊎-elim, _↔_, _≢_}
-use Prim.Native.Nat.{ℕ, _≤_, _<_}
+use mathlib.Core.Logic.{_⊎_, inl, inr, ⊎-elim, _↔_, _≢_, dite}
+use Prim.Native.Nat.{ℕ, zero, suc, _≤_, _<_}
+use native.Mathlib.Nat.{le-antisymm, le-of-suc-le-suc, not-suc-le-zero}
 use lib.Dec.{ltb}
 use borrow.Author.Tests.{ltb-true, ltb-false}
 
@@ -64,3 +65,11 @@ lt-or-ge x k = ⊎-elim (λ e. inl (ltb-true x k e)) (λ e. inr (ltb-false x k e
 pub cond-elim : {A : Type 0} (P : A → Type 0) (p : Bool) (u v : A) → (p ≡ true → P u) → (p ≡ false → P v) → P (cond p u v)
 cond-elim P true u v f g = f refl
 cond-elim P false u v f g = g refl
+
+-- where a property is decided, the least number that has it, or none below n has it
+pub least-below : {P : ℕ → Type 0} → ((x : ℕ) → Dec (P x)) → (n : ℕ) → ((m : ℕ) × (P m × ((y : ℕ) → P y → m ≤ y))) ⊎ ((y : ℕ) → y < n → P y → ⊥)
+least-below d zero = inr (λ y l _. not-suc-le-zero l)
+least-below {P} d (suc n) = ⊎-elim (λ m. inl m) (λ none. dite (d n)
+    (λ p. inl (n, (p, λ y q. ⊎-elim (λ l. absurd (none y l q)) (λ g. g) (lt-or-ge y n))))
+    (λ k. inr (λ y l q. ⊎-elim (λ b. none y b q) (λ g. k (subst P (le-antisymm (le-of-suc-le-suc l) g) q)) (lt-or-ge y n))))
+    (least-below d n)

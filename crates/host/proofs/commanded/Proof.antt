@@ -2,7 +2,7 @@ use mathlib.Core.Path.{ap, _∙_}
 use Prim.Native.Nat.{ℕ}
 use native.Mathlib.Omega.{arith}
 use Rattle.boardfile.proofs.Commanding.{command-short}
-use Rattle.host.specs.Answers.{answer}
+use Rattle.host.specs.Answers.{answerOf}
 use borrow.Author.Needs.{needs}
 use Rattle.host.proofs.commanded.Statement.{statement}
 use Rattle.host.proofs.commanded.Tie as tie
@@ -13,18 +13,18 @@ command-requires c κs = search needs
 place-number-requires : tie.Need-place-number-requires
 place-number-requires c κs = search needs
 
-cast-packed : tie.Need-cast-packed
-cast-packed c = let l = command-short (c .before .before .before .before .command .ensures) in record { fits = omega arith }
+cast-answered-at : tie.Need-cast-answered-at
+cast-answered-at c = let l = command-short (c .before .before .before .before .command .ensures) in record { fits = omega arith }
 
-packed-requires : tie.Need-packed-requires
-packed-requires c κs = search needs
+answered-at-requires : tie.Need-answered-at-requires
+answered-at-requires c κs = search needs
 
 same-length : tie.Need-same-length
 same-length c = search needs
 
 returns : tie.Need-returns
 returns c = let q = c .before .before .before .before .before .command in
-    (q .result .place, (q .result .number, (q .result .len, q .ensures, c .packed .ensures ∙ ap (λ (k : ℕ). answer (q .result .number) k (q .result .len)) (c .before .before .place-number .ensures))))
+    (q .result .place, (q .result .answer, (q .result .len, q .ensures, c .answered-at .ensures ∙ ap (λ (k : ℕ). answerOf (q .result .answer) k (q .result .len)) (c .before .before .place-number .ensures))))
 
 pub commanded-spec : {M : Type 1} → statement M
 commanded-spec =
@@ -32,7 +32,7 @@ commanded-spec =
     (tie.spec
     command-requires
     place-number-requires
-    cast-packed
-    packed-requires
+    cast-answered-at
+    answered-at-requires
     same-length
     returns)

@@ -1,11 +1,10 @@
 use mathlib.Core.Path.{_≡_}
 use mathlib.Core.Bool.{true}
-use mathlib.Core.Logic.{_↔_, Iff·trans}
-use Rattle.hierarchy.specs.Views.{ScopeBy}
+use mathlib.Core.Logic.{_↔_}
 use Rattle.hierarchy.specs.Tables.{Tables, tables}
-use Rattle.board.specs.Commands.{Malformed, Missing, PartsStand, Standing, Lacking, InScope}
+use Rattle.board.specs.Commands.{Malformed, Missing, PartsStand, Standing, Lacking}
 use Rattle.board.proofs.Looking.{holds, fails}
-use Rattle.board.proofs.Trying.{missing-row, edge-row, parts-row, standing-row, lacking-row, in-scope-alike, refused-2, refused-3, refused-4, refused-5, refused-6, refused-not}
+use Rattle.board.proofs.Trying.{missing-row, edge-row, parts-row, standing-row, lacking-row, refused-2, refused-3, refused-4, refused-5, refused-not}
 use borrow.Author.Needs.{needs}
 use Rattle.board.proofs.commands.refused_before.Statement.{statement}
 use Rattle.board.proofs.commands.refused_before.Tie as tie
@@ -36,17 +35,14 @@ edge-at c = lacking-row _ _ (parts-at (c .before .before .before .before)) (edge
 there-at : (c : tie.Else4) → Lacking (board (c .before .before .before .before .before .before .before .before .before .before)) (c .before .before .before .before .before .before .before .before .before .before .args .c) → ⊥
 there-at c = fails (edge-at (c .before)) (c .if4 .left)
 
-scope-at : (c : tie.After-within-scope) → (c .within-scope .result ≡ true) ↔ InScope (ScopeBy (c .before .before .before .before .before .before .before .before .before .before .before .before .before .args .down .now) (c .before .before .before .before .before .before .before .before .before .before .before .before .before .args .up .now)) (c .before .before .before .before .before .before .before .before .before .before .before .before .before .args .c)
-scope-at c = Iff·trans (c .within-scope .ensures) (in-scope-alike (c .before .before .before .before .before .before .before .before .before .before .before .before .before .args .c) (c .before .scope .ensures))
-
 returns : tie.Need-returns
-returns c = refused-2 _ _ _ (holds (c .before .malformed .ensures) (c .if1 .taken))
+returns c = refused-2 _ _ (holds (c .before .malformed .ensures) (c .if1 .taken))
 
 missing-requires : tie.Need-missing-requires
 missing-requires c κs = formed-at c
 
 returns-2 : tie.Need-returns-2
-returns-2 c = refused-3 _ _ _ (formed-at (c .before .before)) (holds (missing-row (board (c .before .before .before .before)) _ (c .before .missing .ensures)) (c .if2 .taken))
+returns-2 c = refused-3 _ _ (formed-at (c .before .before)) (holds (missing-row (board (c .before .before .before .before)) _ (c .before .missing .ensures)) (c .if2 .taken))
 
 parts-stand-requires : tie.Need-parts-stand-requires
 parts-stand-requires c κs = formed-at (c .before .before)
@@ -58,28 +54,16 @@ standing-requires : tie.Need-standing-requires
 standing-requires c κs = search needs
 
 returns-3 : tie.Need-returns-3
-returns-3 c = refused-4 _ _ _ (formed-at (c .before .before .before .before .before .before)) (present-at (c .before .before .before .before)) (holds (standing-row _ _ (parts-at (c .before .before .before)) (c .before .standing .ensures)) (c .if3 .taken))
+returns-3 c = refused-4 _ _ (formed-at (c .before .before .before .before .before .before)) (present-at (c .before .before .before .before)) (holds (standing-row _ _ (parts-at (c .before .before .before)) (c .before .standing .ensures)) (c .if3 .taken))
 
 lacking-requires : tie.Need-lacking-requires
 lacking-requires c κs = search needs
 
 returns-4 : tie.Need-returns-4
-returns-4 c = refused-5 _ _ _ (formed-at (c .before .before .before .before .before .before .before .before)) (present-at (c .before .before .before .before .before .before)) (free-at (c .before .before)) (holds (edge-at (c .before)) (c .if4 .taken))
-
-cast-scope : tie.Need-cast-scope
-cast-scope c = search needs
-
-scope-requires : tie.Need-scope-requires
-scope-requires c κs = search needs
-
-within-scope-requires : tie.Need-within-scope-requires
-within-scope-requires c κs = formed-at (c .before .before .before .before .before .before .before .before .before .before)
+returns-4 c = refused-5 _ _ (formed-at (c .before .before .before .before .before .before .before .before)) (present-at (c .before .before .before .before .before .before)) (free-at (c .before .before)) (holds (edge-at (c .before)) (c .if4 .taken))
 
 returns-5 : tie.Need-returns-5
-returns-5 c = refused-not _ _ _ (formed-at (c .before .before .before .before .before .before .before .before .before .before .before .before)) (present-at (c .before .before .before .before .before .before .before .before .before .before)) (free-at (c .before .before .before .before .before .before)) (there-at (c .before .before .before .before)) (holds (scope-at (c .before)) (c .if5 .taken))
-
-returns-6 : tie.Need-returns-6
-returns-6 c = refused-6 _ _ _ (formed-at (c .before .before .before .before .before .before .before .before .before .before .before .before)) (present-at (c .before .before .before .before .before .before .before .before .before .before)) (free-at (c .before .before .before .before .before .before)) (there-at (c .before .before .before .before)) (fails (scope-at (c .before)) (c .if5 .left))
+returns-5 c = refused-not _ _ (formed-at (c .before .before .before .before .before .before .before .before)) (present-at (c .before .before .before .before .before .before)) (free-at (c .before .before)) (there-at c)
 
 pub refused-before-spec : {M : Type 1} → statement M
 refused-before-spec =
@@ -95,8 +79,4 @@ refused-before-spec =
     returns-3
     lacking-requires
     returns-4
-    cast-scope
-    scope-requires
-    within-scope-requires
-    returns-5
-    returns-6)
+    returns-5)

@@ -9,8 +9,11 @@ use Rattle.board.proofs.commands.settle.Tie as tie
 sound-of-requires : tie.Need-sound-of-requires
 sound-of-requires c κs = search needs
 
+plain-requires : tie.Need-plain-requires
+plain-requires c κs = search needs
+
 returns : tie.Need-returns
-returns c = decided-unsound _ _ (fails (c .before .sound-of .ensures) (not-true _ (c .if1 .taken)))
+returns c = decided-unsound _ _ (c .plain .ensures) (fails (c .before .before .sound-of .ensures) (not-true _ (c .before .if1 .taken)))
 
 decide-requires : tie.Need-decide-requires
 decide-requires c κs = search needs
@@ -19,4 +22,4 @@ returns-2 : tie.Need-returns-2
 returns-2 c = decided-viewed (holds (c .before .before .before .before .before .before .before .before .sound-of .ensures) (not-false _ (c .before .before .before .before .before .before .before .if1 .left))) (c .decide .ensures)
 
 pub settle-spec : {M : Type 1} → statement M
-settle-spec = tie.close (tie.spec sound-of-requires returns decide-requires returns-2)
+settle-spec = tie.close (tie.spec sound-of-requires plain-requires returns decide-requires returns-2)

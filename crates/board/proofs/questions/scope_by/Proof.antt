@@ -1,5 +1,9 @@
+use mathlib.Core.Path.{refl}
+use mathlib.Core.Bool.{true≢false, false≢true}
+use mathlib.Core.Logic.{⊎-elim}
 use Rattle.board.proofs.Asking.{answer-refused, answer-done}
-use Rattle.board.proofs.Trying.{same-test}
+use Rattle.board.proofs.Looking.{holds, fails, never}
+use Rattle.board.proofs.Trying.{same-test, always}
 use borrow.Author.Needs.{needs}
 use Rattle.board.proofs.questions.scope_by.Statement.{statement}
 use Rattle.board.proofs.questions.scope_by.Tie as tie
@@ -13,17 +17,38 @@ returns c = answer-refused (c .before .refused .ensures) (c .if1 .taken)
 scope-requires : tie.Need-scope-requires
 scope-requires c κs = search needs
 
-has-requires : tie.Need-has-requires
-has-requires c κs = search needs
-
 size-requires : tie.Need-size-requires
 size-requires c κs = search needs
 
+has-requires : tie.Need-has-requires
+has-requires c κs = search needs
+
 returns-2 : tie.Need-returns-2
-returns-2 c = answer-done (c .before .before .before .before .refused .ensures) (c .before .before .before .if1 .left)
-    (same-test (c .before .has .ensures) (c .before .before .scope .ensures _), (c .before .before .scope .result, c .before .before .scope .ensures, c .size .ensures))
+returns-2 c = answer-done (c .before .before .before .before .before .refused .ensures) (c .before .before .before .before .if1 .left) (
+  (always (holds (same-test (c .before .has .ensures) (c .before .before .before .scope .ensures _)) (c .if2 .taken)), (c .before .before .before .scope .result, c .before .before .before .scope .ensures, c .before .before .size .ensures)),
+  record { yes = λ _. (refl, refl); no = λ e. absurd (true≢false e) },
+)
+
+bars-requires : tie.Need-bars-requires
+bars-requires c κs = search needs
+
+returns-3 : tie.Need-returns-3
+returns-3 c =
+    let out = fails (same-test (c .before .before .has .ensures) (c .before .before .before .before .scope .ensures _)) (c .before .if2 .left) in
+    answer-done (c .before .before .before .before .before .before .refused .ensures) (c .before .before .before .before .before .if1 .left) (
+      (never out, (c .before .before .before .before .scope .result, c .before .before .before .before .scope .ensures, c .before .before .before .size .ensures)),
+      record { yes = λ e. absurd (false≢true e); no = λ _. ⊎-elim (λ q. absurd (out (q .0))) (λ q. q) (c .bars .ensures) },
+    )
 
 pub scope-by-spec : {M : Type 1} → statement M
 scope-by-spec =
     tie.close
-    (tie.spec refused-requires returns scope-requires has-requires size-requires returns-2)
+    (tie.spec
+    refused-requires
+    returns
+    scope-requires
+    size-requires
+    has-requires
+    returns-2
+    bars-requires
+    returns-3)

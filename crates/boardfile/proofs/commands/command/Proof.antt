@@ -3,9 +3,9 @@ use Rattle.board.specs.Boards.{boardOf}
 use Rattle.board.specs.Commands.{Decided}
 use Rattle.board.specs.declared.Board.{Board}
 use Rattle.board.proofs.Viewing.{decided-viewed}
-use Rattle.boardfile.specs.Answers.{CommandAnswer.unread, CommandAnswer.refused}
+use Rattle.boardfile.specs.Answers.{CommandAnswer.refused}
 use Rattle.boardfile.proofs.Readings.{sound, read-refused, read-done}
-use Rattle.boardfile.proofs.Commanding.{wanting, finished}
+use Rattle.boardfile.proofs.Commanding.{unread-as, wanting, finished}
 use borrow.Author.Needs.{needs}
 use Rattle.boardfile.proofs.commands.command.Statement.{statement}
 use Rattle.boardfile.proofs.commands.command.Tie as tie
@@ -23,39 +23,47 @@ next c = let d = c .decide in boardOf (d .last .0) (d .last .1 .0) (d .last .1 .
 decided : (c : tie.After-decide) → Decided (opened c) (c .before .before .before .before .before .before .before .before .before .before .before .before .before .before .before .before .before .args .c) (c .decide .result) (next c)
 decided c = decided-viewed (sound (c .before .before .before .before .before .before .before .before .before .«open» .ensures) (c .before .before .before .before .before .before .before .if1 .left)) (c .decide .ensures)
 
+plain-requires : tie.Need-plain-requires
+plain-requires c κs = search needs
+
 returns : tie.Need-returns
-returns c = unread (read-refused (c .before .before .«open» .ensures) (c .if1 .taken)) (c .if1 .taken) refl
+returns c = unread-as (c .plain .ensures) (read-refused (c .before .before .before .«open» .ensures) (c .before .if1 .taken)) (c .before .if1 .taken) refl
 
 decide-requires : tie.Need-decide-requires
 decide-requires c κs = search needs
 
 returns-2 : tie.Need-returns-2
-returns-2 c = refused (read-done (c .before .before .before .before .before .before .before .before .before .before .«open» .ensures) (c .before .before .before .before .before .before .before .before .if1 .left)) (decided (c .before)) (c .if2 .taken) refl
+returns-2 c = refused (read-done (c .before .before .before .before .before .before .before .before .before .before .before .«open» .ensures) (c .before .before .before .before .before .before .before .before .before .if1 .left)) (decided (c .before .before)) (c .if2 .taken) refl
 
 put-requires : tie.Need-put-requires
 put-requires c κs = search needs
+
+plain-requires-2 : tie.Need-plain-requires-2
+plain-requires-2 c κs = search needs
 
 same-length : tie.Need-same-length
 same-length c = search needs
 
 returns-3 : tie.Need-returns-3
-returns-3 c = wanting (read-done (c .before .before .before .before .before .before .before .before .before .before .before .before .before .before .before .before .before .before .«open» .ensures) (c .before .before .before .before .before .before .before .before .before .before .before .before .before .before .before .before .if1 .left)) (decided (c .before .before .before .before .before .before .before .before .before)) (c .before .before .before .before .before .before .before .before .if2 .left) (c .before .before .before .before .put .ensures) (c .if3 .taken)
+returns-3 c = wanting (read-done (c .before .before .before .before .before .before .before .before .before .before .before .before .before .before .before .before .before .before .before .before .«open» .ensures) (c .before .before .before .before .before .before .before .before .before .before .before .before .before .before .before .before .before .before .if1 .left)) (decided (c .before .before .before .before .before .before .before .before .before .before .before)) (c .before .before .before .before .before .before .before .before .before .if2 .left) (c .before .before .before .before .before .put .ensures) (c .before .if3 .taken) (c .plain2 .ensures)
 
 same-length-2 : tie.Need-same-length-2
 same-length-2 c = search needs
 
 returns-4 : tie.Need-returns-4
-returns-4 c = finished (read-done (c .before .before .before .before .before .before .before .before .before .before .before .before .before .before .before .before .before .before .«open» .ensures) (c .before .before .before .before .before .before .before .before .before .before .before .before .before .before .before .before .if1 .left)) (decided (c .before .before .before .before .before .before .before .before .before)) (c .before .before .before .before .before .before .before .before .if2 .left) (c .before .before .before .before .put .ensures) (c .if3 .left)
+returns-4 c = finished (read-done (c .before .before .before .before .before .before .before .before .before .before .before .before .before .before .before .before .before .before .before .«open» .ensures) (c .before .before .before .before .before .before .before .before .before .before .before .before .before .before .before .before .before .if1 .left)) (decided (c .before .before .before .before .before .before .before .before .before .before)) (c .before .before .before .before .before .before .before .before .if2 .left) (c .before .before .before .before .put .ensures) (c .if3 .left)
 
 pub command-spec : {M : Type 1} → statement M
 command-spec =
     tie.close
     (tie.spec
     open-requires
+    plain-requires
     returns
     decide-requires
     returns-2
     put-requires
+    plain-requires-2
     same-length
     returns-3
     same-length-2
