@@ -22,7 +22,7 @@ Conditions = List ((ℕ → Bool) × Bool)
 
 -- ---- one role, with one cause
 
-pub offends-one : {In : ℕ → ℕ → Type 0} {a : ℕ} {ps : Conditions} {x y : ℕ} {s t : Bool} → Offends In a ps x s → Offends In a ps y t → (x ≡ y) × (s ≡ t)
+offends-one : {In : ℕ → ℕ → Type 0} {a : ℕ} {ps : Conditions} {x y : ℕ} {s t : Bool} → Offends In a ps x s → Offends In a ps y t → (x ≡ y) × (s ≡ t)
 offends-one (here h l) (here g m) = (omega (arith, l _ g, m _ h), refl)
 offends-one (here h l) (later n g) = absurd (n _ h)
 offends-one (later n h) (here g m) = absurd (n _ g)
@@ -46,9 +46,6 @@ module _ {Out : ℕ → ℕ → ℕ → ℕ → Type 0} (one : (a x c d v w : �
 module _ {Blame : Answer → Type 0} where
   pub names-plain : (n : ℕ) → n ≢ 6 → Names Blame (plain n)
   names-plain n d = record { six = λ e. absurd (d e); other = λ _. refl }
-
-  pub names-number : {n : ℕ} {m : Answer} → m ≡ plain n → n ≢ 6 → (m .number ≡ n) × Names Blame m
-  names-number {n} e d = (ap (λ (m : Answer). m .number) e, subst (λ (m : Answer). Names Blame m) (sym e) (names-plain n d))
 
   pub names-six : {m : Answer} → m .number ≡ 6 → Blame m → Names Blame m
   names-six e h = record { six = λ _. h; other = λ d. absurd (d e) }
@@ -139,7 +136,7 @@ module _ {In : ℕ → ℕ → Type 0} (c : Command) where
       both q e = (q .0, q .1 e)
 
   -- both ways
-  pub scope-clear : InScope In c → Clear In (c .actor) (conditions c)
+  scope-clear : InScope In c → Clear In (c .actor) (conditions c)
   scope-clear h = (
     λ y e. let k = at-role c y .0 e in dite (ℕ-discrete (c .code) 2)
         (λ two. strict _ y (inr (two, k .1)))
@@ -176,19 +173,19 @@ offends-out {In} c h k = offends-clear In (c .actor) h (scope-clear c k)
 
 -- ---- the first that offends, condition by condition
 
-pub past : {In : ℕ → ℕ → Type 0} {a : ℕ} {those : ℕ → Bool} {asked s : Bool} {ps : Conditions} {x : ℕ}
+past : {In : ℕ → ℕ → Type 0} {a : ℕ} {those : ℕ → Bool} {asked s : Bool} {ps : Conditions} {x : ℕ}
     → ((y : ℕ) → those y ≡ true → AsAsked In a asked y) → Offends In a ps x s → Offends In a ((those, asked) ∷ ps) x s
 past h k = later (λ y o. o .wrong (h y (o .among))) k
 
 -- the actor's scope as a set, and its strict scope: what is asked of a member
-module _ (all a : ℕ) where
-  abbrev pub InSet : ℕ → ℕ → Type 0
-  InSet b x = x isIn all
+abbrev InSet : ℕ → ℕ → ℕ → Type 0
+InSet all a x = x isIn all
 
-  pub plain-asked : (y : ℕ) → (y isIn all) ↔ AsAsked InSet a false y
+module _ (all a : ℕ) where
+  plain-asked : (y : ℕ) → (y isIn all) ↔ AsAsked (InSet all) a false y
   plain-asked y = (λ m. (m, λ e. absurd (false≢true e)), λ k. k .0)
 
-  pub strict-asked : (w : ℕ) → a < 64 → ((x : ℕ) → bit w x ≡ (bit all x && not (same? a x))) → (y : ℕ) → (y isIn w) ↔ AsAsked InSet a true y
+  pub strict-asked : (w : ℕ) → a < 64 → ((x : ℕ) → bit w x ≡ (bit all x && not (same? a x))) → (y : ℕ) → (y isIn w) ↔ AsAsked (InSet all) a true y
   strict-asked w l h y = (
     λ m. let k = sym (h y) ∙ m in (and-left (bit all y) _ k, λ _ e. false-no (not-true _ (and-right (bit all y) (not (same? a y)) k)) (same-is a y l ∙ eq-eqb y a (sym e))),
     λ k. h y ∙ and-both (bit all y) (not (same? a y)) (k .0) (ap not (not-so (same? a y) (λ e. k .1 refl (sym (same-eq a y e))))),
@@ -199,12 +196,12 @@ module _ (In : ℕ → ℕ → Type 0) (c : Command) (s w d : ℕ) (strict : Boo
   abbrev SetAt : ℕ → Bool
   SetAt x = eqb (c .code) 1 && bit s x
 
-  pub set-clear : d ≡ 0 → (y : ℕ) → SetAt y ≡ true → AsAsked In (c .actor) strict y
+  set-clear : d ≡ 0 → (y : ℕ) → SetAt y ≡ true → AsAsked In (c .actor) strict y
   set-clear z y e = asked y .0 (⊎-elim (λ m. m)
       (λ n. absurd (false-no (bit-zero y) (subst (λ (k : ℕ). y isIn k) z (d-is y ∙ and-both (bit s y) (not (bit w y)) (at-set c y s .0 e .1) (ap not n)))))
       (true-or-false (bit w y)))
 
-  pub set-found : c .code ≡ 1 → {ps : Conditions} {x : ℕ} {t : Bool} → LowestRole d x → t ≡ strict → Offends In (c .actor) ((SetAt, strict) ∷ ps) x t
+  set-found : c .code ≡ 1 → {ps : Conditions} {x : ℕ} {t : Bool} → LowestRole d x → t ≡ strict → Offends In (c .actor) ((SetAt, strict) ∷ ps) x t
   set-found one {ps} {x} l e =
       let m = sym (d-is x) ∙ l .member in
       subst (Offends In (c .actor) ((SetAt, strict) ∷ ps) x) (sym e)
@@ -220,30 +217,30 @@ module _ (In : ℕ → ℕ → Type 0) (c : Command) where
   Junior = (y : ℕ) → (leb 3 (c .code) && eqb y (c .junior)) ≡ true → AsAsked In (c .actor) false y
 
   -- the first two conditions of command 1 are of nobody,
-  pub no-role : c .code ≡ 1 → Role (eqb (c .code) 2)
+  no-role : c .code ≡ 1 → Role (eqb (c .code) 2)
   no-role one y e = let k = at-role c y .0 e .0 in absurd (omega arith)
 
-  pub no-junior : c .code < 3 → Junior
+  no-junior : c .code < 3 → Junior
   no-junior low y e = let k = at-junior c y .0 e .0 in absurd (omega arith)
 
   -- and of the others those of the sets
-  pub ends-clear : c .code ≢ 1 → Role (eqb (c .code) 2) → Junior → Clear In (c .actor) (conditions c)
+  ends-clear : c .code ≢ 1 → Role (eqb (c .code) 2) → Junior → Clear In (c .actor) (conditions c)
   ends-clear n r j = (r, (j, (none (c .«a_seniors»), (none (c .«i_seniors»), (none (c .«a_juniors»), (none (c .«i_juniors»), tt))))))
     where
       none : (s : ℕ) {strict : Bool} (y : ℕ) → (eqb (c .code) 1 && bit s y) ≡ true → AsAsked In (c .actor) strict y
       none s y e = absurd (n (at-set c y s .0 e .0))
 
   -- the first two are of one role
-  pub role-clear : {s : Bool} → AsAsked In (c .actor) s (c .role) → Role s
+  role-clear : {s : Bool} → AsAsked In (c .actor) s (c .role) → Role s
   role-clear {s} k y e = subst (AsAsked In (c .actor) s) (sym (at-role c y .0 e .1)) k
 
-  pub junior-clear : AsAsked In (c .actor) false (c .junior) → Junior
+  junior-clear : AsAsked In (c .actor) false (c .junior) → Junior
   junior-clear k y e = subst (AsAsked In (c .actor) false) (sym (at-junior c y .0 e .1)) k
 
-  pub role-found : 2 ≤ c .code → {s : Bool} {ps : Conditions} → (AsAsked In (c .actor) s (c .role) → ⊥) → Offends In (c .actor) ((λ x. leb 2 (c .code) && eqb x (c .role), s) ∷ ps) (c .role) s
+  role-found : 2 ≤ c .code → {s : Bool} {ps : Conditions} → (AsAsked In (c .actor) s (c .role) → ⊥) → Offends In (c .actor) ((λ x. leb 2 (c .code) && eqb x (c .role), s) ∷ ps) (c .role) s
   role-found l h = here (record { among = at-role c (c .role) .1 (l, refl); wrong = h }) (λ y o. let k = at-role c y .0 (o .among) .1 in omega arith)
 
-  pub junior-found : 3 ≤ c .code → {ps : Conditions} → (AsAsked In (c .actor) false (c .junior) → ⊥) → Offends In (c .actor) ((λ x. leb 3 (c .code) && eqb x (c .junior), false) ∷ ps) (c .junior) false
+  junior-found : 3 ≤ c .code → {ps : Conditions} → (AsAsked In (c .actor) false (c .junior) → ⊥) → Offends In (c .actor) ((λ x. leb 3 (c .code) && eqb x (c .junior), false) ∷ ps) (c .junior) false
   junior-found l h = here (record { among = at-junior c (c .junior) .1 (l, refl); wrong = h }) (λ y o. let k = at-junior c y .0 (o .among) .1 in omega arith)
 
 -- ---- a 6 put together
@@ -263,54 +260,51 @@ module _ {In : ℕ → ℕ → Type 0} {Out : ℕ → ℕ → ℕ → ℕ → Ty
 -- ---- command 1, set by set: `all` is the actor's scope, and `w` its strict scope
 
 module _ (all : ℕ) (c : Command) (one : c .code ≡ 1) where
-  abbrev In : ℕ → ℕ → Type 0
-  In a x = x isIn all
-
   -- d are those of s that are not in w
   abbrev Rest : ℕ → ℕ → ℕ → Type 0
   Rest d s w = (y : ℕ) → bit d y ≡ (bit s y && not (bit w y))
 
   abbrev Named : ℕ → Bool → Type 0
-  Named = Offends In (c .actor) (conditions c)
+  Named = Offends (InSet all) (c .actor) (conditions c)
 
-  members : {x : ℕ} {t : Bool} → Offends In (c .actor) (sets c) x t → Named x t
-  members h = past (no-role In c one) (past (no-junior In c (omega (arith, one))) h)
+  members : {x : ℕ} {t : Bool} → Offends (InSet all) (c .actor) (sets c) x t → Named x t
+  members h = past (no-role (InSet all) c one) (past (no-junior (InSet all) c (omega (arith, one))) h)
 
   module _ (d : ℕ) (d-is : Rest d (c .«a_seniors») all) where
     pub named-1 : {x : ℕ} {t : Bool} → LowestRole d x × (t ≡ false) → Named x t
-    named-1 l = members (set-found In c (c .«a_seniors») all d false (plain-asked all (c .actor)) d-is one (l .0) (l .1))
+    named-1 l = members (set-found (InSet all) c (c .«a_seniors») all d false (plain-asked all (c .actor)) d-is one (l .0) (l .1))
 
     module _ (d-no : d ≡ 0) (e : ℕ) (e-is : Rest e (c .«i_seniors») all) where
-      past-a : {x : ℕ} {t : Bool} {ps : Conditions} → Offends In (c .actor) ps x t → Offends In (c .actor) ((λ x. eqb (c .code) 1 && bit (c .«a_seniors») x, false) ∷ ps) x t
-      past-a = past (set-clear In c (c .«a_seniors») all d false (plain-asked all (c .actor)) d-is d-no)
+      past-a : {x : ℕ} {t : Bool} {ps : Conditions} → Offends (InSet all) (c .actor) ps x t → Offends (InSet all) (c .actor) ((λ x. eqb (c .code) 1 && bit (c .«a_seniors») x, false) ∷ ps) x t
+      past-a = past (set-clear (InSet all) c (c .«a_seniors») all d false (plain-asked all (c .actor)) d-is d-no)
 
       pub named-2 : {x : ℕ} {t : Bool} → LowestRole e x × (t ≡ false) → Named x t
-      named-2 l = members (past-a (set-found In c (c .«i_seniors») all e false (plain-asked all (c .actor)) e-is one (l .0) (l .1)))
+      named-2 l = members (past-a (set-found (InSet all) c (c .«i_seniors») all e false (plain-asked all (c .actor)) e-is one (l .0) (l .1)))
 
       module _ (e-no : e ≡ 0) (l : c .actor < 64) (w f : ℕ) (w-is : (y : ℕ) → bit w y ≡ (bit all y && not (same? (c .actor) y))) (f-is : Rest f (c .«a_juniors») w) where
-        past-i : {x : ℕ} {t : Bool} {ps : Conditions} → Offends In (c .actor) ps x t → Offends In (c .actor) ((λ x. eqb (c .code) 1 && bit (c .«i_seniors») x, false) ∷ ps) x t
-        past-i = past (set-clear In c (c .«i_seniors») all e false (plain-asked all (c .actor)) e-is e-no)
+        past-i : {x : ℕ} {t : Bool} {ps : Conditions} → Offends (InSet all) (c .actor) ps x t → Offends (InSet all) (c .actor) ((λ x. eqb (c .code) 1 && bit (c .«i_seniors») x, false) ∷ ps) x t
+        past-i = past (set-clear (InSet all) c (c .«i_seniors») all e false (plain-asked all (c .actor)) e-is e-no)
 
         pub named-3 : {x : ℕ} {t : Bool} → LowestRole f x × (t ≡ true) → Named x t
-        named-3 m = members (past-a (past-i (set-found In c (c .«a_juniors») w f true (strict-asked all (c .actor) w l w-is) f-is one (m .0) (m .1))))
+        named-3 m = members (past-a (past-i (set-found (InSet all) c (c .«a_juniors») w f true (strict-asked all (c .actor) w l w-is) f-is one (m .0) (m .1))))
 
         module _ (f-no : f ≡ 0) (g : ℕ) (g-is : Rest g (c .«i_juniors») w) where
-          under : (y : ℕ) → (eqb (c .code) 1 && bit (c .«a_juniors») y) ≡ true → AsAsked In (c .actor) true y
-          under = set-clear In c (c .«a_juniors») w f true (strict-asked all (c .actor) w l w-is) f-is f-no
+          under : (y : ℕ) → (eqb (c .code) 1 && bit (c .«a_juniors») y) ≡ true → AsAsked (InSet all) (c .actor) true y
+          under = set-clear (InSet all) c (c .«a_juniors») w f true (strict-asked all (c .actor) w l w-is) f-is f-no
 
           pub named-4 : {x : ℕ} {t : Bool} → LowestRole g x × (t ≡ true) → Named x t
-          named-4 m = members (past-a (past-i (past under (set-found In c (c .«i_juniors») w g true (strict-asked all (c .actor) w l w-is) g-is one (m .0) (m .1)))))
+          named-4 m = members (past-a (past-i (past under (set-found (InSet all) c (c .«i_juniors») w g true (strict-asked all (c .actor) w l w-is) g-is one (m .0) (m .1)))))
 
-          pub not-all : (InScope In c → ⊥) → g ≢ 0
+          pub not-all : (InScope (InSet all) c → ⊥) → g ≢ 0
           not-all n g-no = n (clear-scope c (
-            no-role In c one,
+            no-role (InSet all) c one,
             (
-              no-junior In c (omega (arith, one)),
+              no-junior (InSet all) c (omega (arith, one)),
               (
-                set-clear In c (c .«a_seniors») all d false (plain-asked all (c .actor)) d-is d-no,
+                set-clear (InSet all) c (c .«a_seniors») all d false (plain-asked all (c .actor)) d-is d-no,
                 (
-                  set-clear In c (c .«i_seniors») all e false (plain-asked all (c .actor)) e-is e-no,
-                  (under, (set-clear In c (c .«i_juniors») w g true (strict-asked all (c .actor) w l w-is) g-is g-no, tt)),
+                  set-clear (InSet all) c (c .«i_seniors») all e false (plain-asked all (c .actor)) e-is e-no,
+                  (under, (set-clear (InSet all) c (c .«i_juniors») w g true (strict-asked all (c .actor) w l w-is) g-is g-no, tt)),
                 ),
               ),
             ),
@@ -318,24 +312,21 @@ module _ (all : ℕ) (c : Command) (one : c .code ≡ 1) where
 
 -- ---- the others: the role, then the junior
 
-module _ (all : ℕ) (c : Command) (low : 2 ≤ c .code) (fails : InScope (λ a x. x isIn all) c → ⊥) where
-  abbrev Set : ℕ → ℕ → Type 0
-  Set a x = x isIn all
-
+module _ (all : ℕ) (c : Command) (low : 2 ≤ c .code) (fails : InScope (InSet all) c → ⊥) where
   -- where it is about the role alone, or the role is out, that is the one
-  pub named-only : c .code ≡ 2 → Offends Set (c .actor) (conditions c) (c .role) true
-  named-only two = subst (Offends Set (c .actor) (conditions c) (c .role)) (eq-eqb (c .code) 2 two)
-      (role-found Set c low (λ k. fails (clear-scope c (ends-clear Set c (λ one. omega (arith, one, two)) (role-clear Set c k) (no-junior Set c (omega (arith, two)))))))
+  pub named-only : c .code ≡ 2 → Offends (InSet all) (c .actor) (conditions c) (c .role) true
+  named-only two = subst (Offends (InSet all) (c .actor) (conditions c) (c .role)) (eq-eqb (c .code) 2 two)
+      (role-found (InSet all) c low (λ k. fails (clear-scope c (ends-clear (InSet all) c (λ one. omega (arith, one, two)) (role-clear (InSet all) c k) (no-junior (InSet all) c (omega (arith, two)))))))
 
   module _ (edge : c .code ≢ 2) where
     not-strict : false ≡ eqb (c .code) 2
     not-strict = sym (ne-eqb (c .code) 2 edge)
 
-    pub named-senior : bit all (c .role) ≡ false → Offends Set (c .actor) (conditions c) (c .role) false
-    named-senior n = subst (Offends Set (c .actor) (conditions c) (c .role)) (sym not-strict) (role-found Set c low (λ k. false-no n (k .0)))
+    pub named-senior : bit all (c .role) ≡ false → Offends (InSet all) (c .actor) (conditions c) (c .role) false
+    named-senior n = subst (Offends (InSet all) (c .actor) (conditions c) (c .role)) (sym not-strict) (role-found (InSet all) c low (λ k. false-no n (k .0)))
 
     -- else the junior is
-    pub named-junior : c .role isIn all → Offends Set (c .actor) (conditions c) (c .junior) false
+    pub named-junior : c .role isIn all → Offends (InSet all) (c .actor) (conditions c) (c .junior) false
     named-junior m =
-        let asked : AsAsked Set (c .actor) (eqb (c .code) 2) (c .role) = (m, λ two. absurd (edge (eqb-true (c .code) 2 two))) in
-        past (role-clear Set c asked) (junior-found Set c (omega (arith, edge)) (λ k. fails (clear-scope c (ends-clear Set c (λ one. omega (arith, one)) (role-clear Set c asked) (junior-clear Set c k)))))
+        let asked : AsAsked (InSet all) (c .actor) (eqb (c .code) 2) (c .role) = (m, λ two. absurd (edge (eqb-true (c .code) 2 two))) in
+        past (role-clear (InSet all) c asked) (junior-found (InSet all) c (omega (arith, edge)) (λ k. fails (clear-scope c (ends-clear (InSet all) c (λ one. omega (arith, one)) (role-clear (InSet all) c asked) (junior-clear (InSet all) c k)))))

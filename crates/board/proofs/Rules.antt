@@ -1,12 +1,12 @@
 -- Refusal tables: what done says, and two tables in a row. Assumes nothing.
-use mathlib.Core.Path.{_≡_, _∙_}
-use mathlib.Core.Bool.{Bool, true, _&&_}
+use mathlib.Core.Path.{_≡_, sym, _∙_}
+use mathlib.Core.Bool.{Bool, true, not, _&&_}
 use mathlib.Core.Logic.{inl, inr, _≢_, _↔_}
 use mathlib.Core.List.{List, [], _∷_, _++_}
 use Prim.Native.Nat.{ℕ}
 use native.Mathlib.Omega.{arith}
-use lib.Dec.{ltb}
-use borrow.Author.Tests.{ltb-true}
+use lib.Dec.{eqb, ltb}
+use borrow.Author.Tests.{eqb-false, ltb-true, not-true}
 use Rattle.sets.proofs.Bools.{and-left, and-right}
 use Rattle.hierarchy.specs.First.{First}
 
@@ -30,6 +30,17 @@ unfolding First
 first-done [] e f = tt
 first-done (rule ∷ rest) e (inl p) = absurd (omega (arith, p .1, ltb-true 0 (rule .0) (and-left (ltb 0 (rule .0)) (numbered rest) e)))
 first-done (rule ∷ rest) e (inr p) = (p .0, first-done rest (and-right (ltb 0 (rule .0)) (numbered rest) e) (p .1))
+
+-- a number that no rule has, and that isn't done's
+abbrev pub lacks : ℕ → List (ℕ × Type 0) → Bool
+lacks k [] = not (eqb 0 k)
+lacks k (rule ∷ rest) = not (eqb (rule .0) k) && lacks k rest
+
+pub first-other : (k : ℕ) (rules : List (ℕ × Type 0)) → lacks k rules ≡ true → (n : ℕ) → First rules n → n ≢ k
+unfolding First
+first-other k [] e n f q = eqb-false 0 k (not-true (eqb 0 k) e) (sym f ∙ q)
+first-other k (rule ∷ rest) e n (inl p) q = eqb-false (rule .0) k (not-true (eqb (rule .0) k) (and-left (not (eqb (rule .0) k)) (lacks k rest) e)) (sym (p .1) ∙ q)
+first-other k (rule ∷ rest) e n (inr p) q = first-other k rest (and-right (not (eqb (rule .0) k)) (lacks k rest) e) n (p .1) q
 
 -- two tables with the same numbers, whose conditions agree row by row
 abbrev pub Alike : List (ℕ × Type 0) → List (ℕ × Type 0) → Type 0

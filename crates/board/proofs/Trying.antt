@@ -10,13 +10,13 @@ use lib.Count.{trailingZeros}
 use lib.Dec.{eqb}
 use borrow.Author.Tests.{eqb-true, eqb-false, eq-eqb, ne-eqb, le-leb, not-true}
 use Rattle.sets.specs.Sets.{bit, _isIn_, _areIn_, same?}
-use Rattle.sets.proofs.Bools.{true-or-false, or-cases, or-left, or-right, and-left, and-right, and-both, false-no, lt-or-ge, not-so}
+use Rattle.sets.proofs.Bools.{true-or-false, or-cases, or-left, or-right, and-left, and-right, and-both, false-no, lt-or-ge}
 use Rattle.sets.proofs.Digits.{bit-zero}
-use Rattle.sets.proofs.Laws.{same-is, same-eq, bit-lowest}
+use Rattle.sets.proofs.Laws.{same-is, bit-lowest}
 use Rattle.hierarchy.specs.Tables.{Tables, row, hasI, hasA}
 use Rattle.hierarchy.specs.First.{First}
 use Rattle.hierarchy.specs.Views.{AreViews}
-use Rattle.hierarchy.proofs.Checks.{and-is, or-is, if-is, not-is, eq-is}
+use Rattle.hierarchy.proofs.Checks.{and-is, or-is, if-is, not-is, eq-is, same-test}
 use Rattle.hierarchy.proofs.Derive.{edge-entry}
 use Rattle.hierarchy.proofs.FirstLaws.{hit, pass, none}
 use Rattle.hierarchy.proofs.ViewLaws.{admin-by}
@@ -28,11 +28,8 @@ use Rattle.board.specs.Looks.{OutsideBy, late}
 use Rattle.board.specs.declared.Board.{Board}
 use Rattle.board.specs.declared.Command.{Command}
 use Rattle.board.specs.declared.commands.Answer.{Answer}
-use Rattle.board.proofs.Blaming.{names-plain, names-six}
-use Rattle.board.proofs.Rules.{stable, first-done, first-refused, first-next}
-
-pub same-test : {P : Type 0} {p q : Bool} → p ≡ q → (q ≡ true) ↔ P → (p ≡ true) ↔ P
-same-test e f = (λ t. f .0 (sym e ∙ t), λ x. e ∙ f .1 x)
+use Rattle.board.proofs.Blaming.{names-plain, names-six, strict-asked}
+use Rattle.board.proofs.Rules.{stable, first-done, first-other, first-refused, first-next}
 
 -- ---- row 2
 
@@ -144,19 +141,11 @@ missing-is c n d live h hn hd = Iff·trans (some-member d h) (
 -- the scope condition, by the sets of those asked for
 pub within-is : (scope : ℕ) (c : Command) (u s w : ℕ) → (Malformed c → ⊥) → ((x : ℕ) → bit u x ≡ scoped c x) → ((x : ℕ) → bit s x ≡ strictly c x)
     → ((x : ℕ) → bit w x ≡ (bit scope x && not (same? (c .actor) x))) → u areIn scope → (s areIn w) ↔ InScope (λ a x. x isIn scope) c
-within-is scope c u s w formed hu hs hw p = (
-  λ q. record {
-    scope = λ x e. p x (hu x ∙ e);
-    strict = λ x e.
-        let m = sym (hw x) ∙ q x (hs x ∙ e) in (
-          and-left (bit scope x) (not (same? (c .actor) x)) m,
-          λ k. false-no (sym (same-is (c .actor) x (actor-lt c formed)) ∙ not-true _ (and-right (bit scope x) (not (same? (c .actor) x)) m)) (eq-eqb x (c .actor) (sym k)),
-        );
-  },
-  λ r x e.
-      let m = r .strict x (sym (hs x) ∙ e) in
-      hw x ∙ and-both (bit scope x) (not (same? (c .actor) x)) (m .0) (ap not (not-so (same? (c .actor) x) (λ k. m .1 (sym (same-eq (c .actor) x k))))),
-)
+within-is scope c u s w formed hu hs hw p =
+    let asked = strict-asked scope (c .actor) w (actor-lt c formed) hw in (
+      λ q. record { scope = λ x e. p x (hu x ∙ e); strict = λ x e. let m = asked x .0 (q x (hs x ∙ e)) in (m .0, m .1 refl) },
+      λ r x e. let m = r .strict x (sym (hs x) ∙ e) in asked x .1 (m .0, λ _. m .1),
+    )
 
 -- the scope condition by two relations that agree on the actor
 pub in-scope-alike : {In In′ : ℕ → ℕ → Type 0} (c : Command) → ((x : ℕ) → In (c .actor) x ↔ In′ (c .actor) x) → InScope In c ↔ InScope In′ c
@@ -252,15 +241,6 @@ module _ (In : ℕ → ℕ → Type 0) (Blame : Answer → Type 0) (c : Command)
   pub scope-fails : (InScope In c → ⊥) → (m .number ≡ 6) × Blame m → First (byScope In c) (m .number) × Names Blame m
   scope-fails n q = (subst (First (byScope In c)) (sym (q .0)) (hit _ _ _ n), names-six (q .0) (q .1))
 
--- the number of a refusal before scope is none of scope's
-unscoped-other : (b : Tables) (c : Command) (n : ℕ) → First (unscoped b c) n → n ≢ 6
-unfolding First
-unscoped-other b c n (inl p) e = omega (arith, p .1)
-unscoped-other b c n (inr (_, inl p)) e = omega (arith, p .1)
-unscoped-other b c n (inr (_, inr (_, inl p))) e = omega (arith, p .1)
-unscoped-other b c n (inr (_, inr (_, inr (_, inl p)))) e = omega (arith, p .1)
-unscoped-other b c n (inr (_, inr (_, inr (_, inr p)))) e = omega (arith, p)
-
 -- ---- the two halves in a row
 
 pub decided-unsound : (b : Board) (c : Command) {m : Answer} → m ≡ plain 1 → (SoundBoard b → ⊥) → Decided b c m b
@@ -281,7 +261,7 @@ module _ (In : ℕ → ℕ → Type 0) (Blame : Answer → Type 0) (b : Board) (
   pub decided-early : (n : ℕ) → n ≢ 0 → First (unscoped (tablesOf b) c) n → {m : Answer} → m ≡ plain n → Refused m
   decided-early n h f {m} is x e = subst (λ (m : Answer). Outcome m x) (sym is) (record {
     numbered = first-refused rows _ n h (first-refused (unscoped (tablesOf b) c) (byScope In c) n h f);
-    named = names-plain n (unscoped-other (tablesOf b) c n f);
+    named = names-plain n (first-other 6 (unscoped (tablesOf b) c) refl n f);
     done = λ z. absurd (h z);
     refused = λ _. e;
   })
@@ -307,18 +287,9 @@ module _ (In : ℕ → ℕ → Type 0) (Blame : Answer → Type 0) (b : Board) (
         first-next rows (late (after (tablesOf b) c) c) n (first-done rows refl (subst (First rows) early passed))
         (subst (λ (t : Tables). First (late t c) n) is f)
 
-    -- none of the rows afterwards is a 6
-    late-other : (n : ℕ) → First (late t c) n → n ≢ 6
-    unfolding First
-    late-other n (inl p) e = omega (arith, p .1)
-    late-other n (inr (_, inl p)) e = omega (arith, p .1)
-    late-other n (inr (_, inr (_, inl p))) e = omega (arith, p .1)
-    late-other n (inr (_, inr (_, inr (_, inl p)))) e = omega (arith, p .1)
-    late-other n (inr (_, inr (_, inr (_, inr p)))) e = omega (arith, p .1)
-
     pub decided-late : (n : ℕ) → n ≢ 0 → First (late t c) n → {m : Answer} → m ≡ plain n → Refused m
     decided-late n h f is x e =
-        subst (λ (m : Answer). Outcome m x) (sym is) (record { numbered = numbered n f; named = names-plain n (late-other n f); done = λ z. absurd (h z); refused = λ _. e })
+        subst (λ (m : Answer). Outcome m x) (sym is) (record { numbered = numbered n f; named = names-plain n (first-other 6 (late t c) refl n f); done = λ z. absurd (h z); refused = λ _. e })
 
     pub decided-done : (n : ℕ) → n ≡ 0 → First (late t c) n → {m : Answer} → m ≡ plain 0 → (x : Board) → tablesOf x ≡ t → KeepsRight x → Outcome m x
     decided-done n z f plainly x e right = subst (λ (m : Answer). Outcome m x) (sym plainly) (record {

@@ -78,8 +78,8 @@ pub le-is : (m n : ℕ) → (leb m n ≡ true) ↔ (m ≤ n)
 le-is m n = (leb-true m n, le-leb m n)
 
 -- two tests that agree
-pub same-test : {p q : Bool} → p ≡ q → (p ≡ true) ↔ (q ≡ true)
-same-test e = (λ h. sym e ∙ h, λ h. e ∙ h)
+pub same-test : {P : Type 0} {p q : Bool} → p ≡ q → (q ≡ true) ↔ P → (p ≡ true) ↔ P
+same-test e f = (λ t. f .0 (sym e ∙ t), λ x. e ∙ f .1 x)
 
 pub beq-same : (p q : Bool) → Bool·beq p q ≡ true → p ≡ q
 beq-same true true e = refl

@@ -37,7 +37,7 @@ both t = unite (t .i) (t .a)
 edge-is : (t : Tables) (x y : ℕ) → (y isIn row (both t) x) ↔ (kind t x y ≢ 0)
 edge-is t x y =
     let e = ap (λ s. bit s y) (row-unite (t .i) (t .a) x) ∙ bit-or (row (t .i) x) (row (t .a) x) y in
-    Iff·trans (same-test e) (Iff·trans (or-is Iff·rfl Iff·rfl) (Iff·symm (edge-entry t x y)))
+    same-test e (Iff·trans (or-is Iff·rfl Iff·rfl) (Iff·symm (edge-entry t x y)))
 
 leads : {t : Tables} {x y k : ℕ} → Way t x y k → Led (both t) (row (both t) x) y
 leads {t} {x} {y} (edge h) = record { start = y; member = edge-is t x y .1 h; chain = stop }

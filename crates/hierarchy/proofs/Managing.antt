@@ -53,7 +53,7 @@ module _ {down up : List ℕ} {a r : ℕ} (near rest : ℕ) (near-is : (x : ℕ)
   bar-way {x} l = let w = left x .0 (l .member) in record { derives = w .0; unrelated = w .1; lowest = λ y m n. l .least y (left y .1 (m, n)) }
     where
       left : (y : ℕ) → (y isIn rest) ↔ ((y isIn row up r) × (RelatedBy down up a y → ⊥))
-      left y = Iff·trans (same-test (rest-is y)) (and-is Iff·rfl (λ _. not-is (Iff·trans (same-test (near-is y)) (or-is Iff·rfl Iff·rfl))))
+      left y = same-test (rest-is y) (and-is Iff·rfl (λ _. not-is (same-test (near-is y) (or-is Iff·rfl Iff·rfl))))
 
 -- r goes from s
 gone : (s r s′ : ℕ) → r < 64 → ((a : ℕ) → bit s′ a ≡ (bit s a && not (same? r a))) → (a : ℕ) → a isIn s′ → a ≢ r

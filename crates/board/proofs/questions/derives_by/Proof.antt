@@ -1,6 +1,6 @@
 use mathlib.Core.Logic.{Iff·rfl}
+use Rattle.hierarchy.proofs.Checks.{same-test}
 use Rattle.board.proofs.Asking.{answer-refused, answer-done}
-use Rattle.board.proofs.Trying.{same-test}
 use borrow.Author.Needs.{needs}
 use Rattle.board.proofs.questions.derives_by.Statement.{statement}
 use Rattle.board.proofs.questions.derives_by.Tie as tie

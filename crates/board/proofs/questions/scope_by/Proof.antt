@@ -1,9 +1,10 @@
 use mathlib.Core.Path.{refl}
 use mathlib.Core.Bool.{true≢false, false≢true}
 use mathlib.Core.Logic.{⊎-elim}
+use Rattle.hierarchy.proofs.Checks.{same-test}
 use Rattle.board.proofs.Asking.{answer-refused, answer-done}
 use Rattle.board.proofs.Looking.{holds, fails, never}
-use Rattle.board.proofs.Trying.{same-test, always}
+use Rattle.board.proofs.Trying.{always}
 use borrow.Author.Needs.{needs}
 use Rattle.board.proofs.questions.scope_by.Statement.{statement}
 use Rattle.board.proofs.questions.scope_by.Tie as tie
