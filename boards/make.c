@@ -1,8 +1,8 @@
 /* Makes the board files of this folder through the library's own writer.
  *
- * Each board is listed by its edges. The bytes are laid out here, and then a command that is done and changes nothing, or that
- * adds a role and one that removes it, is given to the library, which reads the file, decides and writes it anew. A board that the
- * library refuses stops the program. */
+ * Each board is listed by its edges and rights. The bytes are laid out here, and then a command that is done and changes nothing, or
+ * that adds a role and one that removes it, is given to the library, which reads the file, decides and writes it anew. A board that
+ * the library refuses stops the program. */
 #include <stdint.h>
 #include <stdio.h>
 #include <stdlib.h>
@@ -22,20 +22,34 @@ static const struct edge cooperative[] = {
     {4, 6, A}, {4, 7, A}, {4, 8, I}, {5, 9, A}, {5, 10, A}, {5, 11, I}, {12, 16, I}, {13, 17, IA}, {13, 18, A},
 };
 
-static size_t lay(uint8_t *file, uint64_t live, const struct edge *edges, size_t count)
+enum { ALL = BOARD_RIGHTS_ALL, ROLES_ONLY = 3, EDGES_ONLY = 28 }; /* the rights of commands 1 and 2, and of 3, 4 and 5 */
+
+/* Role by role. Where there is no list, role 0 has all rights and nobody else any, and the file is HH. */
+static const uint8_t founder_and_1[64] = {ALL, ALL}, coordinators[64] = {ALL, ALL, EDGES_ONLY, ROLES_ONLY};
+
+static size_t put16(uint8_t *at, size_t n)
 {
-    size_t n = 0, roles = 0;
-    for (int role = 0; role < 64; role++)
-        if (live >> role & 1) file[n++] = (uint8_t)role, roles++;
+    at[0] = (uint8_t)n, at[1] = (uint8_t)(n >> 8);
+    return 2;
+}
+
+static size_t lay(uint8_t *file, size_t roles, const struct edge *edges, size_t count, const uint8_t *rights)
+{
+    size_t n = 0;
+    while (n < roles) file[n] = (uint8_t)n, n++;
     for (size_t k = 0; k < count; k++) {
         file[n++] = edges[k].senior;
         file[n++] = edges[k].junior;
         file[n++] = edges[k].kind;
     }
-    size_t back = 3 * count, all = roles + back;
-    uint8_t trailer[6] = {(uint8_t)back, (uint8_t)(back >> 8), (uint8_t)all, (uint8_t)(all >> 8), 'H', 'H'};
-    memcpy(file + n, trailer, 6);
-    return n + 6;
+    if (rights) memcpy(file + n, rights, roles), n += roles;
+    size_t all = n;
+    if (rights) n += put16(file + n, roles);
+    n += put16(file + n, count > 0 ? all - roles : 0);
+    n += put16(file + n, all);
+    file[n++] = 'H';
+    file[n++] = rights ? 'R' : 'H';
+    return n;
 }
 
 /* One command by whichever role may give it; the new file takes the old one's place. */
@@ -52,11 +66,10 @@ static size_t give(uint8_t *file, size_t len, struct command c)
     exit(1);
 }
 
-static void make(const char *name, int roles, const struct edge *edges, size_t count)
+static void make(const char *name, size_t roles, const struct edge *edges, size_t count, const uint8_t *rights)
 {
     uint8_t file[BOARD_FILE];
-    uint64_t live = roles == 64 ? ~0ull : (1ull << roles) - 1;
-    size_t len = lay(file, live, edges, count);
+    size_t len = lay(file, roles, edges, count, rights);
     if (count > 0) {
         struct edge e = edges[0];
         len = give(file, len, (struct command){.code = 5, .role = e.senior, .junior = e.junior, .kind = e.kind});
@@ -75,16 +88,19 @@ static void make(const char *name, int roles, const struct edge *edges, size_t c
 int main(void)
 {
     static struct edge chain[63], full[2016];
+    static uint8_t everybody[64];
     size_t n = 0;
     for (int s = 0; s < 64; s++)
         for (int j = s + 1; j < 64; j++) full[n++] = (struct edge){(uint8_t)s, (uint8_t)j, IA};
     for (int s = 0; s < 63; s++) chain[s] = (struct edge){(uint8_t)s, (uint8_t)(s + 1), I};
-    make("founding.board", 1, NULL, 0);
-    make("p.board", 4, p, sizeof p / sizeof *p);
-    make("w.board", 6, w, sizeof w / sizeof *w);
-    make("l.board", 4, l, sizeof l / sizeof *l);
-    make("cooperative.board", 20, cooperative, sizeof cooperative / sizeof *cooperative);
-    make("chain.board", 64, chain, 63);
-    make("full.board", 64, full, 2016);
+    memset(everybody, ALL, sizeof everybody);
+    make("founding.board", 1, NULL, 0, NULL);
+    make("p.board", 4, p, sizeof p / sizeof *p, founder_and_1);
+    make("w.board", 6, w, sizeof w / sizeof *w, founder_and_1);
+    make("l.board", 4, l, sizeof l / sizeof *l, founder_and_1);
+    make("cooperative.board", 20, cooperative, sizeof cooperative / sizeof *cooperative, coordinators);
+    make("chain.board", 64, chain, 63, NULL);
+    make("full.board", 64, full, 2016, NULL);
+    make("longest.board", 64, full, 2016, everybody);
     return 0;
 }

@@ -36,15 +36,20 @@ extern "C" {
 
 #define BOARD_ROLES 64   /* roles are 0 to 63; role 0 is the founding role */
 #define BOARD_EDGES 2016 /* the most a board can have without a loop */
-#define BOARD_FILE 6118  /* the bytes of the longest board file */
+#define BOARD_FILE 6184  /* the bytes of the longest board file */
+
+/* The right to give the command of a code, 1 to 5, as a bit of a rights byte; and all five. */
+#define BOARD_RIGHT(code) (1u << ((code)-1))
+#define BOARD_RIGHTS_ALL 31
 
 /* ---- answers: a refusal number, where it arose, a value, and why a role is out of scope, in one number */
 
 /* 0 done; 1 the board is not sound; 2 a number out of range; 3 a role isn't live; 4 the role, or every part named of
- * the edge, stands already; 5 there is no such edge, or a part to be removed is missing; 6 out of the actor's scope; 7
- * some role would reach itself; 8 the new role would be outside the actor's strict scope; 9 some role would have no
- * administrator; 10 bad frame of the file; 11 bad record in the file; 12 not enough room in `out`. The first that
- * holds, in the order of the project's scope document. */
+ * the edge, stands already; 5 there is no such edge, or a part to be removed is missing; 13 the actor may not use a right
+ * that the command needs or names; 6 out of the actor's scope; 7 some role would reach itself; 8 the new role would be
+ * outside the actor's strict scope; 9 some role would have no administrator; 10 bad frame of the file; 11 bad record in
+ * the file; 12 not enough room in `out`. The first that holds: of a command in this order, 13 after 5 and before 6; of a
+ * file 10, 11, 7, 9. */
 #define BOARD_NUMBER(answer) ((uint32_t)((answer)&0xff))
 
 #define BOARD_PLACE(answer) ((uint32_t)((answer) >> 8 & 0xff))
@@ -59,8 +64,8 @@ extern "C" {
  * beside offending role 0. With every other answer they are 0, but that board_stretch has its length there.
  *
  * The offending role is the first that isn't in the actor's scope or, where that is asked, in its strict scope, which
- * leaves out the actor. Looked through in this order: the role of code 2 (strict) or the senior, the junior, then the
- * A-seniors, I-seniors, A-juniors (strict) and I-juniors (strict) of code 1, each set from its lowest role. */
+ * leaves out the actor. Looked through in this order: the role of code 2 (strict), of 6 and 7, or the senior, the junior,
+ * then the A-seniors, I-seniors, A-juniors (strict) and I-juniors (strict) of code 1, each set from its lowest role. */
 #define BOARD_OFFENDING(answer) ((uint32_t)((answer) >> 32 & 0xff))
 
 #define BOARD_CAUSE(answer) ((uint32_t)((answer) >> 40 & 0xff))
@@ -79,19 +84,27 @@ extern "C" {
  * does itself. manager[r]: the line manager of r. A role that isn't live has empty sets, and it and role 0 have
  * BOARD_NO_MANAGER. A board with any of these wrong is not sound.
  *
+ * rights[r]: the rights that r holds, BOARD_RIGHT of each. A byte above BOARD_RIGHTS_ALL, and a right at a role that isn't
+ * live, is not sound. A role may use the rights that it holds, and those of the roles that it derives.
+ *
  * After a call on it that answered 0 a board is sound, and a program may read these questions' answers off it:
  *     does x derive y           derives[x] >> y & 1
  *     is r in the scope of a    (derives[a] >> r & 1) && (derivers[r] & ~(derives[a] | derivers[a])) == 0
  *     who is in a's way to r    where a derives r, the lowest role of derivers[r] & ~(derives[a] | derivers[a])
  *     the line manager of r     manager[r]
- *     the steps from r          how often r = manager[r] until r is 0, for a live r */
+ *     the steps from r          how often r = manager[r] until r is 0, for a live r
+ *     which rights a may use    rights[x] of all x in derives[a], or'ed */
 struct board {
     uint64_t live, i[BOARD_ROLES], a[BOARD_ROLES], derives[BOARD_ROLES], derivers[BOARD_ROLES];
-    uint8_t manager[BOARD_ROLES];
+    uint8_t manager[BOARD_ROLES], rights[BOARD_ROLES];
 };
 #define BOARD_NO_MANAGER 64
 
-/* Fills in the founding board: role 0 is live, and there is no edge. The answer is 0. */
+/* Board files are of two kinds, told apart by their last two bytes, and every call takes both. A board where role 0 holds
+ * all five rights and no other role any has a file that ends in HH, at most 6,118 bytes, and no rights in it. Every other
+ * board has one that ends in HR, with a rights byte for each live role. So a board has one file. */
+
+/* Fills in the founding board: role 0 is live and holds all five rights, and there is no edge. The answer is 0. */
 uint64_t board_found(struct board *b);
 
 /* The board in a file, filled in with what follows from its tables. A refusal (10, 11, 7 or 9) leaves `b` as it was. The
@@ -108,14 +121,21 @@ uint64_t board_write(const struct board *b, uint8_t *out, size_t out_len, size_t
 /* Code 1 adds a role, 2 removes one, 3 adds an edge, 4 removes one, 5 changes its kind. `role` is the role of 1 and 2,
  * and the senior of 3, 4 and 5; their kind names parts of the edge: 1 (I), 2 (A) or 3 (both). Code 3 leaves what stands
  * and what is named, so A added to I gives both; 4 takes the parts named away, and the edge goes with its last part; 5
- * replaces the kind. The four sets are for code 1: bit r is role r. What a command doesn't use may hold anything. A
- * number that is no role stays none: it is 2, and not cut to a role. */
+ * replaces the kind. The four sets are for code 1: bit r is role r. Each of the five needs the right of its code. A new
+ * role holds none; a removed role's rights go.
+ *
+ * Code 6 gives the rights of the byte `rights` to `role`, 7 takes them from it. Both need no right of their own, but the
+ * actor must be one that may use every right named (else 13), and the role in its scope, where the actor itself is, too.
+ * A byte above BOARD_RIGHTS_ALL is 2. Giving what is held, taking what isn't, and the byte 0 are done and change nothing.
+ * Nothing keeps a board from losing its last right.
+ *
+ * What a command doesn't use may hold anything. A number that is no role stays none: it is 2, and not cut to a role. */
 struct command {
-    uint32_t code, actor, role, junior, kind;
+    uint32_t code, actor, role, junior, kind, rights;
     uint64_t a_seniors, i_seniors, a_juniors, i_juniors;
 };
 
-/* One command on a board. Number 0 changes the board, tables and what follows from them; any other leaves it as it was.
+/* One command on a board. Number 0 changes the board, with what follows from its tables; any other leaves it as it was.
  * Place and value are 0; a 6 has the offending role, its cause and the role in the way. */
 uint64_t board_apply(struct board *b, const struct command *c);
 

@@ -1,4 +1,4 @@
-/* Where the fields of the two records stand, and that the subject reads each there and nothing between them.
+/* Where the fields of the two records stand, and that the subject reads each there.
  *
  * The commands that are done hold different numbers and sets, so that one read from another's place gives another
  * answer. Then each number is wrong alone, and the refusal is its own. The board's fields are spoilt one by one, too. */
@@ -7,38 +7,39 @@
 #include <string.h>
 
 #define AT(record, field, place) _Static_assert(offsetof(struct record, field) == place, #record "." #field)
-_Static_assert(sizeof(struct board) == 2120 && sizeof(struct command) == 56, "sizes");
+_Static_assert(sizeof(struct board) == 2184 && sizeof(struct command) == 56, "sizes");
 AT(board, live, 0); AT(board, i, 8); AT(board, a, 520);
-AT(board, derives, 1032); AT(board, derivers, 1544); AT(board, manager, 2056);
-AT(command, code, 0); AT(command, actor, 4); AT(command, role, 8); AT(command, junior, 12); AT(command, kind, 16);
+AT(board, derives, 1032); AT(board, derivers, 1544); AT(board, manager, 2056); AT(board, rights, 2120);
+AT(command, code, 0); AT(command, actor, 4); AT(command, role, 8); AT(command, junior, 12); AT(command, kind, 16); AT(command, rights, 20);
 AT(command, a_seniors, 24); AT(command, i_seniors, 32); AT(command, a_juniors, 40); AT(command, i_juniors, 48);
-enum { FILLER = 20 }; /* the 4 bytes behind the kind, which mean nothing */
 
+enum { ROOM = 52 };
 struct state {
     struct board board; /* main() adds who has no manager */
     uint64_t len;
-    uint8_t file[40];
+    uint8_t file[ROOM];
 };
+#define RIGHTS [0] = 30, [1] = 4, [3] = 19, [6] = 16
 static struct state before = { /* 0 I 1, 0 I 3, 3 I 4, 3 I 8, 4 I 6 */
     {0x15b, {[0] = 0xa, [3] = 0x110, [4] = 0x40}, {0},
      {[0] = 0x15b, [1] = 0x2, [3] = 0x158, [4] = 0x50, [6] = 0x40, [8] = 0x100},
      {[0] = 0x1, [1] = 0x3, [3] = 0x9, [4] = 0x19, [6] = 0x59, [8] = 0x109},
-     {[1] = 0, [3] = 0, [4] = 3, [6] = 4, [8] = 3}}, 27,
-    {0, 1, 3, 4, 6, 8, 0, 1, 1, 0, 3, 1, 3, 4, 1, 3, 8, 1, 4, 6, 1, 15, 0, 21, 0, 'H', 'H'}};
+     {[1] = 0, [3] = 0, [4] = 3, [6] = 4, [8] = 3}, {RIGHTS}}, 35,
+    {0, 1, 3, 4, 6, 8, 0, 1, 1, 0, 3, 1, 3, 4, 1, 3, 8, 1, 4, 6, 1, 30, 4, 19, 0, 16, 0, 6, 0, 21, 0, 27, 0, 'H', 'R'}};
 static struct state changed = { /* 4 A 6 instead */
     {0x15b, {[0] = 0xa, [3] = 0x110}, {[4] = 0x40},
      {[0] = 0x11b, [1] = 0x2, [3] = 0x118, [4] = 0x50, [6] = 0x40, [8] = 0x100},
      {[0] = 0x1, [1] = 0x3, [3] = 0x9, [4] = 0x19, [6] = 0x50, [8] = 0x109},
-     {[1] = 0, [3] = 0, [4] = 3, [6] = 4, [8] = 3}}, 27,
-    {0, 1, 3, 4, 6, 8, 0, 1, 1, 0, 3, 1, 3, 4, 1, 3, 8, 1, 4, 6, 2, 15, 0, 21, 0, 'H', 'H'}};
+     {[1] = 0, [3] = 0, [4] = 3, [6] = 4, [8] = 3}, {RIGHTS}}, 35,
+    {0, 1, 3, 4, 6, 8, 0, 1, 1, 0, 3, 1, 3, 4, 1, 3, 8, 1, 4, 6, 2, 30, 4, 19, 0, 16, 0, 6, 0, 21, 0, 27, 0, 'H', 'R'}};
 static struct state grown = { /* 4 A 9, 3 I 9, 9 A 6, 9 I 8 besides */
     {0x35b, {[0] = 0xa, [3] = 0x310, [4] = 0x40, [9] = 0x100}, {[4] = 0x200, [9] = 0x40},
      {[0] = 0x35b, [1] = 0x2, [3] = 0x358, [4] = 0x350, [6] = 0x40, [8] = 0x100, [9] = 0x340},
      {[0] = 0x1, [1] = 0x3, [3] = 0x9, [4] = 0x19, [6] = 0x259, [8] = 0x319, [9] = 0x219},
-     {[1] = 0, [3] = 0, [4] = 3, [6] = 9, [8] = 9, [9] = 4}}, 40,
+     {[1] = 0, [3] = 0, [4] = 3, [6] = 9, [8] = 9, [9] = 4}, {RIGHTS}}, 49,
     {0, 1, 3, 4, 6, 8, 9, 0, 1, 1, 0, 3, 1, 3, 4, 1, 3, 8, 1, 3, 9, 1, 4, 6, 1, 4, 9, 2, 9, 6, 2, 9, 8, 1,
-     27, 0, 34, 0, 'H', 'H'}};
-static struct state founding = {{1, {0}, {0}, {[0] = 1}, {[0] = 1}, {0}}, 7, {0, 0, 0, 1, 0, 'H', 'H'}};
+     30, 4, 19, 0, 16, 0, 0, 7, 0, 34, 0, 41, 0, 'H', 'R'}};
+static struct state founding = {{1, {0}, {0}, {[0] = 1}, {[0] = 1}, {0}, {31}}, 7, {0, 0, 0, 1, 0, 'H', 'H'}};
 
 static const struct calls subject = CALLS_OF(SUBJECT);
 static int calls, wrong;
@@ -49,20 +50,27 @@ static void complain(const char *what)
     wrong++;
 }
 
-/* Through both calls, whatever the filler holds. */
+/* Through both calls. */
 static void gives(struct command c, uint64_t answer, const struct state *after)
 {
-    for (int filler = 0; filler <= 255; filler += 85, calls++) {
-        struct state s = before, want = *after;
-        memset((uint8_t *)&c + FILLER, filler, 4);
-        uint64_t applied = subject.apply(&s.board, &c), said = subject.command(before.file, before.len, &c, s.file, 40);
-        if (applied == answer && said == (answer != 0 ? answer : want.len << 16) &&
-            memcmp(&s.board, &want.board, sizeof s.board) == 0 && memcmp(s.file, want.file, 40) == 0)
-            continue;
-        printf("layout wrong (" SUBJECT_NAME "): %u,%u,%u,%u,%u gives %#llx and %#llx, not %#llx, or another board\n",
-               c.code, c.actor, c.role, c.junior, c.kind, (unsigned long long)applied, (unsigned long long)said,
-               (unsigned long long)answer);
-        wrong++;
+    struct state s = before, want = *after;
+    uint64_t applied = subject.apply(&s.board, &c), said = subject.command(before.file, before.len, &c, s.file, ROOM);
+    calls += 2;
+    if (applied == answer && said == (answer != 0 ? answer : want.len << 16) &&
+        memcmp(&s.board, &want.board, sizeof s.board) == 0 && memcmp(s.file, want.file, ROOM) == 0)
+        return;
+    printf("layout wrong (" SUBJECT_NAME "): %u,%u,%u,%u,%u,%u gives %#llx and %#llx, not %#llx, or another board\n",
+           c.code, c.actor, c.role, c.junior, c.kind, c.rights, (unsigned long long)applied, (unsigned long long)said,
+           (unsigned long long)answer);
+    wrong++;
+}
+
+/* A command of 1 to 5, whatever its rights hold. */
+static void gives_always(struct command c, uint64_t answer, const struct state *after)
+{
+    for (int k = 0; k < 4; k++) {
+        memset(&c.rights, 85 * k, sizeof c.rights);
+        gives(c, answer, after);
     }
 }
 
@@ -70,20 +78,20 @@ static void gives(struct command c, uint64_t answer, const struct state *after)
 static void reads_and_writes(const struct state *s)
 {
     struct board b;
-    uint8_t out[42] = {0};
+    uint8_t out[ROOM + 2] = {0};
     memset(&b, 0xee, sizeof b);
     if (subject.read(s->file, s->len, &b) != 0 || memcmp(&b, &s->board, sizeof b) != 0) complain("a board that was read");
-    if (subject.write(&s->board, out, sizeof out, 1) != s->len << 16 || out[0] != 0 || memcmp(out + 1, s->file, 40) != 0)
+    if (subject.write(&s->board, out, sizeof out, 1) != s->len << 16 || out[0] != 0 || memcmp(out + 1, s->file, ROOM) != 0)
         complain("a board that was written");
     calls += 2;
 }
 
 static void gives_1(struct board b, int field)
 {
-    static const char *const name[] = {"live", "i", "a", "derives", "derivers", "manager"};
-    const struct command change = {5, 3, 4, 6, 2, 1, 2, 4, 8};
+    static const char *const name[] = {"live", "i", "a", "derives", "derivers", "manager", "rights"};
+    const struct command change = {5, 3, 4, 6, 2, 1, 1, 2, 4, 8};
     struct board was = b;
-    uint8_t out[40] = {0}, none[40] = {0};
+    uint8_t out[ROOM] = {0}, none[ROOM] = {0};
     if (subject.apply(&b, &change) != 1 || memcmp(&b, &was, sizeof b) != 0) complain(name[field]);
     if (subject.write(&b, out, sizeof out, 0) != 1 || memcmp(out, none, sizeof out) != 0) complain(name[field]);
     calls += 2;
@@ -96,22 +104,35 @@ int main(void)
         for (int role = 0; role < 64; role++)
             if (role == 0 || !(all[k]->board.live >> role & 1)) all[k]->board.manager[role] = BOARD_NO_MANAGER;
 
-    const struct command change = {5, 3, 4, 6, 2, 1, 2, 4, 8}, add = {1, 3, 9, 64, 65, 0x10, 0x8, 0x40, 0x100};
+    const struct command change = {5, 3, 4, 6, 2, 1, 1, 2, 4, 8}, add = {1, 3, 9, 64, 65, 66, 0x10, 0x8, 0x40, 0x100};
+    const struct command give = {6, 3, 8, 64, 65, 17, 0x10, 0x8, 0x40, 0x100};
     static const uint32_t bad[5] = {2, 6, 0, 9, 4};
     static const uint64_t answer[5] = {9, 6 | 4ull << 32 | 1ull << 40, 5, 3, 2}; /* 6 doesn't derive the senior, 4 */
     struct command c;
     uint32_t *const field[5] = {&c.code, &c.actor, &c.role, &c.junior, &c.kind};
 
-    gives(change, 0, &changed);
-    gives(add, 0, &grown);
+    gives_always(change, 0, &changed);
+    gives_always(add, 0, &grown);
     for (int k = 0; k < 5; k++) {
         c = change, *field[k] = bad[k];
-        gives(c, answer[k], &before);
+        gives_always(c, answer[k], &before);
         c = change, *field[k] += 256;
-        gives(c, 2, &before);
+        gives_always(c, 2, &before);
     }
     int role = 257; /* an int that is no role, though its low 8 bits are */
-    gives((struct command){.code = 2, .actor = 0, .role = role}, 2, &before);
+    gives_always((struct command){.code = 2, .actor = 0, .role = role}, 2, &before);
+
+    /* 3 gives rights 1 and 5 to 8, and takes 2 from itself: no other byte changes */
+    struct state given = before, taken = before;
+    given.board.rights[8] = 17, given.file[26] = 17;
+    taken.board.rights[3] = 17, taken.file[23] = 17;
+    gives(give, 0, &given);
+    c = give, c.code = 7, c.role = 3, c.rights = 2;
+    gives(c, 0, &taken);
+    c = give, c.rights = 32, gives(c, 2, &before);
+    c = give, c.rights += 256, gives(c, 2, &before);
+    c = give, c.rights = 4, gives(c, 13, &before); /* 1 has it, and 3 doesn't derive 1 */
+    c = give, c.role = 1, gives(c, 6 | 1ull << 32 | 1ull << 40, &before);
 
     reads_and_writes(&before);
     reads_and_writes(&changed);
@@ -121,18 +142,19 @@ int main(void)
     if (subject.found(&b) != 0 || memcmp(&b, &founding.board, sizeof b) != 0) complain("the founding board");
     calls++;
 
-    /* role 0 not live, an entry or a member too much in the last row of each table, another manager in the last place */
-    for (int field = 0; field < 6; field++) {
+    /* role 0 not live, an entry, member or right too much in the last row, another manager in the last place */
+    for (int field = 0; field < 7; field++) {
         b = before.board;
         uint64_t *const set[] = {&b.live, &b.i[63], &b.a[63], &b.derives[63], &b.derivers[63]};
         if (field < 5) *set[field] ^= 1;
-        else b.manager[63] ^= 1;
+        else *(field == 5 ? &b.manager[63] : &b.rights[63]) ^= 1;
         gives_1(b, field);
     }
     for (int bit = 0; bit < 64; bit++) { /* each bit of a role's row, and of its manager */
         b = before.board, b.derives[4] ^= 1ull << bit, gives_1(b, 3);
         b = before.board, b.derivers[4] ^= 1ull << bit, gives_1(b, 4);
         b = before.board, b.manager[4] ^= 1 << bit % 8, gives_1(b, 5);
+        b = before.board, b.rights[bit] |= b.live >> bit & 1 ? 32 << bit % 3 : 1 << bit % 8, gives_1(b, 6);
     }
     printf("layout of the records, " SUBJECT_NAME ": %d calls, %d wrong\n", calls, wrong);
     return wrong == 0 ? 0 : 1;

@@ -85,12 +85,8 @@ program() { # OUT WORDS...
     compile $static -o "$out" "$@" ${library_words:+"$library_words"}
 }
 
-build_compare() { # OUT MODEL_FOLDER: all but the model is compiled once
-    [ -n "${rest:-}" ] || {
-        rest=$build/rest.o
-        compile -r -nostdlib -o "$rest" "$here"/compare/*.c ${plain:+"$plain"}
-    }
-    program "$1" "$2"/*.c "$rest"
+build_compare() { # OUT
+    program "$1" "$here"/model/*.c "$here"/compare/*.c ${plain:+"$plain"}
 }
 
 run() { ${emulator:+"$emulator"} "$@"; }
@@ -131,10 +127,27 @@ mutate() { # FILE OLD NEW FOLDER
         END { exit found == 1 ? 0 : 1 }' "$here/model/$1" >"$4/$1"
 }
 
+# All but the file that is changed is compiled once.
+build_mutant() { # FOLDER FILE
+    others=$build/mutation/others
+    [ -n "${whole:-}" ] || {
+        whole=yes
+        mkdir -p "$others"
+        for source in "$here"/model/*.c; do compile -c -o "$others/${source##*/}.o" "$source"; done
+        compile -r -nostdlib -o "$others/rest.o" "$here"/compare/*.c ${plain:+"$plain"}
+    }
+    compile -c -o "$1/changed.o" "$1/$2"
+    set -- "$1/changed.o" "$2"
+    for object in "$others"/*.o; do [ "$object" = "$others/$2.o" ] || set -- "$@" "$object"; done
+    changed=$1
+    shift 2
+    program "$build/mutation/compare" "$changed" "$@"
+}
+
 try_mutation() { # NUMBER WHAT FILE OLD NEW
     folder=$build/mutation/model
     mutate "$3" "$4" "$5" "$folder" || die "mutation $1 ($2): its line is not in $3 just once: $4"
-    build_compare "$build/mutation/compare" "$folder"
+    build_mutant "$folder" "$3"
     examples='examples fail'
     if run "$build/mutation/compare" --examples >/dev/null 2>&1; then examples='examples pass'; fi
     status=0
@@ -172,7 +185,7 @@ sample | full)
     tools
     say "$1 comparison, $subject, $where"
     layout
-    build_compare "$build/compare" "$here/model"
+    build_compare "$build/compare"
     run "$build/compare" "--$1" --seed "$seed"
     ;;
 layout)
@@ -182,7 +195,7 @@ layout)
 replay)
     [ $# -eq 2 ] || die "usage: tests/run.sh replay FILE"
     tools
-    build_compare "$build/compare" "$here/model"
+    build_compare "$build/compare"
     run "$build/compare" --replay "$2"
     ;;
 mutations)

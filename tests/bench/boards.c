@@ -27,9 +27,16 @@ static void finish(struct sample *s, unsigned last)
             if (kind == 0) continue;
             *at++ = x, *at++ = y, *at++ = kind;
         }
-    put16(at, at - edges);
-    put16(at + 2, at - s->file);
-    memcpy(at + 4, "HH", 2);
+    size_t roles = edges - s->file, from_edges = at - edges;
+    int hr = b->rights[0] != BOARD_RIGHTS_ALL;
+    for (unsigned x = 1; x < 64; x++) hr |= b->rights[x] != 0;
+    for (unsigned x = 0; x < 64 && hr; x++)
+        if (b->live >> x & 1) *at++ = b->rights[x];
+    const size_t all = at - s->file;
+    if (hr) put16(at, roles), at += 2;
+    put16(at, from_edges == 0 ? 0 : all - roles);
+    put16(at + 2, all);
+    memcpy(at + 4, hr ? "HR" : "HH", 2);
     s->len = at + 6 - s->file;
     s->last = last;
     if (plain_read(s->file, s->len, &s->board) == 0) return; /* which adds the stored values */
@@ -41,6 +48,7 @@ static void begin(struct sample *s)
 {
     memset(s, 0, sizeof *s);
     s->board.live = 1;
+    s->board.rights[0] = BOARD_RIGHTS_ALL;
 }
 
 static void founding(struct sample *s)
@@ -86,6 +94,7 @@ static void crossed(struct sample *s)
     strcpy(s->name, "crossed, 64 roles");
     edge(&s->board, 0, 1, 1);
     for (unsigned x = 2; x < 63; x++) edge(&s->board, 1, x, 2), edge(&s->board, x, 63, 1);
+    s->board.rights[62] = BOARD_RIGHTS_ALL; /* or it would have 13 before 6 */
     finish(s, 63);
 }
 
@@ -99,9 +108,22 @@ void dense(struct sample *s, unsigned roles, unsigned edges)
     finish(s, roles - 1);
 }
 
+/* The same with rights everywhere: nobody may change an edge's kind, and role 1 may not remove an edge. */
+static void with_rights(struct sample *s)
+{
+    for (unsigned x = 0; x < 64; x++) s->board.rights[x] = s->board.live >> x & 1 ? 3 : 0;
+    s->board.rights[0] = 15;
+    s->board.rights[1] = 7;
+    strcat(s->name, ", HR");
+    finish(s, s->last);
+}
+
 void choose(struct sample *s, int board)
 {
     switch (board) {
+    case TREE_20_HR: tree(s, 20), with_rights(s); break;
+    case CHAIN_64_HR: chain(s, 64), with_rights(s); break;
+    case FULL_HR: dense(s, 64, 2016), with_rights(s); break;
     case FOUNDING: founding(s); break;
     case TREE_20: tree(s, 20); break;
     case CHAIN_64: chain(s, 64); break;
@@ -119,13 +141,15 @@ void choose(struct sample *s, int board)
 const char *const deed_name[DEEDS] = {"apply, done", "apply, refused 6", "apply, refused 7", "command, done",
                                       "check",       "derives",          "scope",            "manager",
                                       "steps",       "stretch",          "read",             "write",
-                                      "apply, barred", "scope, barred",  "view, stored",     "view, by calls"};
+                                      "apply, barred", "scope, barred",  "apply, given",     "apply, refused 13",
+                                      "command, given", "view, stored",  "view, by calls"};
 
 const struct table tables[TABLES] = {
     {"Each call", 4, CALLS, {FOUNDING, TREE_20, CHAIN_64, FULL},
      {DONE, REFUSED_6, REFUSED_7, COMMAND, CHECK, DERIVES, SCOPE, MANAGER, STEPS, STRETCH, READ, WRITE}},
     {"Numbered another way", 3, 4, {CHAIN_UPWARDS, TREE_MIXED, CHAIN_MIXED}, {DONE, REFUSED_7, CHECK, STEPS}},
     {"With roles in the way", 1, 2, {CROSSED}, {BARRED_6, BARRED_SCOPE}},
+    {"With rights, and so HR files", 3, 5, {TREE_20_HR, CHAIN_64_HR, FULL_HR}, {GIVEN, REFUSED_13, GIVEN_COMMAND, READ, WRITE}},
     {"The tree view", 3, 2, {CHAIN_64, TREE_64, FULL}, {VIEW_STORED, VIEW_BY_CALLS}},
 };
 
@@ -180,6 +204,7 @@ long perform(enum deed deed, const struct calls *c, struct sample *s, long times
     const struct command turn = {.code = 5, .junior = 1, .kind = kind % 3 + 1};
     const struct command keep = {.code = 5, .junior = 1, .kind = kind};
     const struct command barred = {.code = 5, .actor = 62, .role = 62, .junior = 63, .kind = 1};
+    const struct command give = {.code = 6, .role = 1, .rights = 8}, take = {.code = 7, .role = 1, .rights = 8};
     const struct command founder_goes = {.code = 2}, loop = {.code = 3, .role = last == 0 ? 0 : 1, .kind = 1};
 
     switch (deed) {
@@ -201,6 +226,14 @@ long perform(enum deed deed, const struct calls *c, struct sample *s, long times
     case READ: REPEAT(c->read(file, len, &other), 0); break;
     case WRITE: REPEAT(c->write(b, out, sizeof out, 0), 0); break;
     case BARRED_6: REPEAT(BOARD_CAUSE(c->apply(b, &barred)), BOARD_CAUSE_IN_THE_WAY); break;
+    case GIVEN:
+        for (long k = 0; k < times; k++) {
+            expect(deed, s, c->apply(b, &give), 0);
+            expect(deed, s, c->apply(b, &take), 0);
+        }
+        return 2 * times;
+    case REFUSED_13: REPEAT(c->apply(b, &turn), 13); break;
+    case GIVEN_COMMAND: REPEAT(c->command(file, len, &give, out, sizeof out), 0); break;
     case BARRED_SCOPE: REPEAT(BOARD_CAUSE(c->scope(file, len, 62, 63)), BOARD_CAUSE_IN_THE_WAY); break;
     case VIEW_STORED:
         for (long k = 0; k < times; k++) view_stored(c, s);

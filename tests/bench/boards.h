@@ -15,15 +15,19 @@ struct sample {
 void tree(struct sample *s, unsigned roles);
 void chain(struct sample *s, unsigned roles);
 void dense(struct sample *s, unsigned roles, unsigned edges); /* a chain of IA edges, then ever longer ones */
-enum { FOUNDING, TREE_20, CHAIN_64, FULL, TREE_64, CHAIN_UPWARDS, TREE_MIXED, CROSSED, CHAIN_MIXED };
+enum {
+    FOUNDING, TREE_20, CHAIN_64, FULL, TREE_64, CHAIN_UPWARDS, TREE_MIXED, CROSSED, CHAIN_MIXED,
+    TREE_20_HR, CHAIN_64_HR, FULL_HR
+};
 void choose(struct sample *s, int board);
 
 /* What is measured. A done command is given with one that undoes it, so that both can be repeated. Barred is a 6, and a no
- * on scope, with many roles in the way. A view is the line manager and the steps of all live roles: from one board that is
+ * on scope, with many roles in the way. Given is a right, and then taken back; 13 is found when all that the actor derives has
+ * been looked at. A view is the line manager and the steps of all live roles: from one board that is
  * read, or by two calls on the file for each role. */
 enum deed {
     DONE, REFUSED_6, REFUSED_7, COMMAND, CHECK, DERIVES, SCOPE, MANAGER, STEPS, STRETCH, READ, WRITE, CALLS,
-    BARRED_6 = CALLS, BARRED_SCOPE, VIEW_STORED, VIEW_BY_CALLS, DEEDS
+    BARRED_6 = CALLS, BARRED_SCOPE, GIVEN, REFUSED_13, GIVEN_COMMAND, VIEW_STORED, VIEW_BY_CALLS, DEEDS
 };
 extern const char *const deed_name[DEEDS];
 /* Does it so many times, and returns the number of calls or views. Ends the program where an answer isn't the right one. */
@@ -35,7 +39,7 @@ struct table {
     int boards, deeds, board[4];
     enum deed deed[CALLS];
 };
-enum { EACH_CALL, NUMBERED, BARRED, VIEWS, TABLES };
+enum { EACH_CALL, NUMBERED, BARRED, WITH_RIGHTS, VIEWS, TABLES };
 extern const struct table tables[TABLES];
 
 #endif

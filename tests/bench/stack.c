@@ -71,23 +71,30 @@ static size_t depth(enum deed deed, const struct calls *calls, struct sample *s)
     return frame - clean;
 }
 
-int main(int argc, char **argv)
+static void rows(const struct table *t, const char *suffix)
 {
     static struct sample samples[4];
-    for (int board = 0; board < 4; board++) choose(&samples[board], tables[EACH_CALL].board[board]);
-
-    printf("bytes of stack, the most over the four boards; %s\n\n", argc > 1 ? argv[1] : "");
-    printf("| %-16s | %9s | %9s |\n|---|---:|---:|\n", "call", SUBJECT_NAME, "plain C");
-    for (int deed = 0; deed < CALLS; deed++) {
+    for (int board = 0; board < t->boards; board++) choose(&samples[board], t->board[board]);
+    for (int k = 0; k < t->deeds; k++) {
         const struct calls *sides[2] = {&subject, &plain};
         size_t most[2] = {0, 0};
+        char name[40];
         for (int side = 0; side < 2; side++)
-            for (int board = 0; board < 4; board++) {
-                depth(deed, sides[side], &samples[board]); /* the first call may bind names, if linked so */
-                size_t d = depth(deed, sides[side], &samples[board]);
+            for (int board = 0; board < t->boards; board++) {
+                depth(t->deed[k], sides[side], &samples[board]); /* the first call may bind names, if linked so */
+                size_t d = depth(t->deed[k], sides[side], &samples[board]);
                 if (d > most[side]) most[side] = d;
             }
-        printf("| %-16s | %9zu | %9zu |\n", deed_name[deed], most[0], most[1]);
+        snprintf(name, sizeof name, "%s%s", deed_name[t->deed[k]], suffix);
+        printf("| %-21s | %9zu | %9zu |\n", name, most[0], most[1]);
     }
+}
+
+int main(int argc, char **argv)
+{
+    printf("bytes of stack, the most over the boards of a table; %s\n\n", argc > 1 ? argv[1] : "");
+    printf("| %-21s | %9s | %9s |\n|---|---:|---:|\n", "call", SUBJECT_NAME, "plain C");
+    rows(&tables[EACH_CALL], "");
+    rows(&tables[WITH_RIGHTS], ", HR");
     return 0;
 }

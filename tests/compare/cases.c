@@ -24,7 +24,7 @@ static struct {
 
 /* ---- the line that replays a case */
 
-/* Rows that are empty, and managers that are none, are left out. */
+/* Rows that are empty, managers that are none and rights that are none are left out. */
 static void print_board(const struct board *b)
 {
     printf(" live=%llx", (unsigned long long)b->live);
@@ -34,6 +34,7 @@ static void print_board(const struct board *b)
         if (b->derives[x]) printf(" down%d=%llx", x, (unsigned long long)b->derives[x]);
         if (b->derivers[x]) printf(" up%d=%llx", x, (unsigned long long)b->derivers[x]);
         if (b->manager[x] != NONE) printf(" m%d=%u", x, b->manager[x]);
+        if (b->rights[x]) printf(" r%d=%u", x, b->rights[x]);
     }
 }
 
@@ -46,8 +47,8 @@ static void print_case(void)
         for (size_t k = 0; k < now.len; k++) printf("%02x", now.file[k]);
     }
     if (now.call == APPLY || now.call == COMMAND)
-        printf(" numbers=%u,%u,%u,%u,%u,%llx,%llx,%llx,%llx", now.command->code, now.command->actor,
-               now.command->role, now.command->junior, now.command->kind,
+        printf(" numbers=%u,%u,%u,%u,%u,%u,%llx,%llx,%llx,%llx", now.command->code, now.command->actor,
+               now.command->role, now.command->junior, now.command->kind, now.command->rights,
                (unsigned long long)now.command->a_seniors, (unsigned long long)now.command->i_seniors,
                (unsigned long long)now.command->a_juniors, (unsigned long long)now.command->i_juniors);
     if (now.call == COMMAND || now.call == WRITE) printf(" room=%zu", now.room);
@@ -116,25 +117,24 @@ static void paint(uint8_t *at, size_t len)
 
 /* ---- tries */
 
-static int code_class(const struct command *c) { return c->code >= 1 && c->code <= 5 ? c->code : 0; }
+static int code_class(const struct command *c) { return c->code >= ADD_ROLE && c->code <= TAKE_RIGHTS ? c->code : 0; }
 
 /* A number above 255 is all that is out of range where the command with it cut to 8 bits isn't refused with 2. */
 static void tally_wide(enum call call, const struct view *v, const struct command *c, uint8_t number)
 {
-    static struct view after;
     for (int field = 0; field < FIELDS; field++) {
         struct command cut = *c;
         if (*field_of(&cut, field) <= 255) continue;
         *field_of(&cut, field) &= 255;
-        if (number == 0) tally.wide_unused[call][field]++;
-        else if (number == 2 && decide(v, &cut, &after) != 2) tally.wide_used[call][field]++;
+        if (number == 0) tally.wide_unused[call][c->code][field]++;
+        else if (number == 2 && decide_on_sound(v, &cut) != 2) tally.wide_used[call][field]++;
     }
 }
 
 /* What is named and what stands counts where 4 and 5 are decided, so not where 1, 2 or 3 came first. */
 static void tally_parts(enum call call, const struct view *v, const struct command *c, uint8_t number)
 {
-    if (c->code < ADD_EDGE || c->code > CHANGE_EDGE) return;
+    if (!on_edge(c)) return;
     int code = c->code - ADD_EDGE;
     if (number == 0 || number > 3) {
         int stands = v->board.kind[c->role][c->junior];
@@ -177,10 +177,10 @@ static struct command from(const struct command *c, enum named named)
 
 static void tally_offence(enum call call, const struct view *v, const struct command *c, uint8_t number)
 {
-    if (c->actor >= ROLES || c->code < ADD_ROLE || c->code > CHANGE_EDGE) return;
+    if (c->actor >= ROLES || code_class(c) == 0) return;
     struct offence first = first_offence(v, c);
     int named = first.named;
-    if (number >= 1 && number <= 5 && first.why.cause != 0) tally.unnamed[call][number]++;
+    if (number != 0 && number != 6 && first.why.cause != 0) tally.unnamed[call][number]++;
     if (number != 6) return;
     if (first.why.cause == 0) disagree("both give 6, and by the model no role offends");
     tally.cause[call][c->code][named][first.why.cause]++;
@@ -195,6 +195,73 @@ static void tally_offence(enum call call, const struct view *v, const struct com
     if (named == THE_JUNIOR && c->role == c->actor) tally.actor_named[call][THE_SENIOR]++;
     if (named > A_SENIORS && in(c->a_seniors, c->actor)) tally.actor_named[call][A_SENIORS]++;
     if (named > I_SENIORS && in(c->i_seniors, c->actor)) tally.actor_named[call][I_SENIORS]++;
+}
+
+/* Whose the rights are that a command asks for, where 13 was tried; and what else holds beside it. */
+static void tally_rights(enum call call, const struct view *v, const struct command *c, uint8_t number)
+{
+    static struct view able;
+    int code = code_class(c);
+    bool asks = false, own = true, lacks = false, usable = false;
+    if (code == 0 || c->actor >= ROLES || !v->board.live[c->actor] || number == 1) return;
+    for (int right = 1; right <= RIGHTS; right++) {
+        if (!asks_for(c, right)) continue;
+        asks = true;
+        if (!holds(&v->board, c->actor, right)) own = false;
+        if (may_use(v, c->actor, right)) usable = true;
+        else lacks = true;
+    }
+    if (number >= 2 && number <= 5) {
+        tally.first[call][code][number] += lacks;
+        return;
+    }
+    if (number != 13) {
+        if (asks) tally.source[call][code][own ? ITS_OWN : OF_ONE_DERIVED]++;
+        return;
+    }
+    bool met[SOURCES] = {false}, held = false;
+    for (int right = 1; right <= RIGHTS; right++) {
+        if (!asks_for(c, right) || may_use(v, c->actor, right)) continue;
+        for (int x = 0; x < ROLES; x++) {
+            if (!holds(&v->board, x, right)) continue;
+            held = true;
+            for (int source = ONE_ABOVE; source <= ONE_ASIDE; source++) met[source] |= stands(v, source, c->actor, x);
+        }
+    }
+    met[NOBODY] = !held;
+    for (int source = 0; source < SOURCES; source++) tally.source[call][code][source] += met[source];
+    if (on_rights(c) && usable) tally.outcome[call][code - GIVE_RIGHTS][SOME_USABLE]++;
+    able = *v;
+    able.board.rights[c->actor] = ALL_RIGHTS;
+    tally.later[call][code][decide_on_sound(&able, c)]++;
+}
+
+/* Of 6 and 7: what changed, and a byte that is out of range alone. */
+static void tally_effect(enum call call, const struct view *v, const struct command *c, uint8_t number)
+{
+    if (!on_rights(c)) return;
+    int code = c->code - GIVE_RIGHTS;
+    if (number == 2 && c->actor < ROLES && c->role < ROLES)
+        tally.rights_range[call][code][c->rights == ALL_RIGHTS + 1 ? 0 : c->rights <= 255 ? 1 : 2]++;
+    if (number != 0) return;
+    uint8_t held = v->board.rights[c->role], new = c->code == GIVE_RIGHTS ? c->rights & ~held : c->rights & held;
+    long *outcome = tally.outcome[call][code];
+    bool left = c->code == GIVE_RIGHTS || held != new;
+    for (int x = 0; x < ROLES; x++) left |= x != (int)c->role && v->board.rights[x] != 0;
+    outcome[c->rights == 0 ? NONE_NAMED : new == 0 ? NONE_CHANGED : new == c->rights ? ALL_CHANGED : SOME_CHANGED]++;
+    outcome[AT_ITSELF] += c->role == c->actor && new != 0;
+    outcome[AT_ROLE_0] += c->role == 0 && new != 0;
+    outcome[NONE_LEFT] += !left && new != 0;
+}
+
+static void tally_command(enum call call, const struct view *v, const struct command *c, uint8_t number)
+{
+    tally_wide(call, v, c, number);
+    tally_parts(call, v, c, number);
+    tally_offence(call, v, c, number);
+    tally_rights(call, v, c, number);
+    tally_effect(call, v, c, number);
+    if (number == 0 && c->code == REMOVE_ROLE) tally.removed_with_rights += v->board.rights[c->role] != 0;
 }
 
 /* A board that is lent to be changed: behind it is the wall. */
@@ -222,14 +289,14 @@ uint8_t try_apply(const struct view *v, const struct board *b, const struct comm
     if (said != answer) disagree("answer %#llx, the model %#llx", said, answer);
     if (memcmp(&lent->board, &want.board, offsetof(struct board, derives)) != 0)
         disagree("number %u, another board afterwards", number);
-    if (memcmp(&lent->board, &want.board, sizeof want.board) != 0)
+    if (memcmp(&lent->board, &want.board, offsetof(struct board, rights)) != 0)
         disagree("number %u, other stored values afterwards", number);
+    if (memcmp(&lent->board, &want.board, sizeof want.board) != 0)
+        disagree("number %u, other rights afterwards", number);
     if (memcmp(lent, &want, sizeof want) != 0) disagree("bytes before the board were touched");
     if (memcmp(command, c, sizeof *c) != 0) disagree("the command was touched");
 
-    tally_wide(APPLY, v, c, number);
-    tally_parts(APPLY, v, c, number);
-    tally_offence(APPLY, v, c, number);
+    tally_command(APPLY, v, c, number);
     tally.apply[code_class(c)][number]++;
     if (number == 0 && c->code == CHANGE_EDGE && memcmp(b, &want.board, sizeof *b) == 0) tally.idle_change++;
     if (number == 7 && c->code == ADD_EDGE && !v->derives[c->junior][c->role]) tally.hidden_loop++;
@@ -273,6 +340,7 @@ void try_question(const struct opened *o, enum call call, uint32_t x, uint32_t y
     uint64_t value = want >> 16;
     bool some = call == SCOPE ? value & 1 : call == MANAGER ? value != NONE : value != 0;
     tally.value[call][some]++;
+    if (call == STRETCH && some) tally.stretch[ends_with(o->file, o->len, "HR")]++;
     if (call == STEPS && (long)value > tally.most_steps) tally.most_steps = value;
     if (call != SCOPE) return;
     tally.scope[BOARD_CAUSE(want)]++;
@@ -299,12 +367,10 @@ void try_command(const struct opened *o, const struct command *c, size_t room)
     if (memcmp(file, o->file, o->len) != 0) disagree("the file was touched");
     if (memcmp(command, c, sizeof *c) != 0) disagree("the command was touched");
 
-    if (o->number == 0) {
-        tally_wide(COMMAND, &o->view, c, BOARD_NUMBER(answer));
-        tally_parts(COMMAND, &o->view, c, BOARD_NUMBER(answer));
-        tally_offence(COMMAND, &o->view, c, BOARD_NUMBER(answer));
-    }
+    if (o->number == 0) tally_command(COMMAND, &o->view, c, BOARD_NUMBER(answer));
     tally.command[code_class(c)][BOARD_PLACE(answer)][BOARD_NUMBER(answer)]++;
+    if (answer != 0 && BOARD_NUMBER(answer) == 0)
+        tally.marks[ends_with(o->file, o->len, "HR")][ends_with(want + GUARD, BOARD_VALUE(answer), "HR")]++;
     if (BOARD_NUMBER(answer) == 0 && BOARD_VALUE(answer) == room) tally.room_exact++;
     if (BOARD_NUMBER(answer) == 12 && room == 0) tally.room_none++;
 }
@@ -335,7 +401,7 @@ void try_found(void)
     tally.found++;
 }
 
-void try_read(const struct opened *o) { tally.read[BOARD_NUMBER(fill(READ, o))]++; }
+void try_read(const struct opened *o) { tally.read[ends_with(o->file, o->len, "HR")][BOARD_NUMBER(fill(READ, o))]++; }
 
 uint8_t try_write(const struct view *v, const struct board *b, size_t room, size_t at)
 {
@@ -365,7 +431,7 @@ static void replay_board(enum call call, char *words)
     static struct view v, after;
     static struct command c;
     unsigned long long set, s[4];
-    unsigned n[5], row;
+    unsigned n[6], row;
     size_t room = 0, at = 0;
     memset(&b, 0, sizeof b);
     memset(b.manager, NONE, sizeof b.manager);
@@ -376,9 +442,10 @@ static void replay_board(enum call call, char *words)
         else if (sscanf(w, "down%u=%llx", &row, &set) == 2 && row < ROLES) b.derives[row] = set;
         else if (sscanf(w, "up%u=%llx", &row, &set) == 2 && row < ROLES) b.derivers[row] = set;
         else if (sscanf(w, "m%u=%llu", &row, &set) == 2 && row < ROLES) b.manager[row] = set;
-        else if (sscanf(w, "numbers=%u,%u,%u,%u,%u,%llx,%llx,%llx,%llx", n, n + 1, n + 2, n + 3, n + 4, s, s + 1,
-                        s + 2, s + 3) == 9)
-            c = (struct command){n[0], n[1], n[2], n[3], n[4], s[0], s[1], s[2], s[3]};
+        else if (sscanf(w, "r%u=%llu", &row, &set) == 2 && row < ROLES) b.rights[row] = set;
+        else if (sscanf(w, "numbers=%u,%u,%u,%u,%u,%u,%llx,%llx,%llx,%llx", n, n + 1, n + 2, n + 3, n + 4, n + 5, s, s + 1,
+                        s + 2, s + 3) == 10)
+            c = (struct command){n[0], n[1], n[2], n[3], n[4], n[5], s[0], s[1], s[2], s[3]};
         else if (sscanf(w, "room=%zu", &room) != 1) sscanf(w, "at=%zu", &at);
     }
     from_board(&b, &v);
@@ -392,15 +459,15 @@ static void replay_file(enum call call, char *words)
     static struct opened o;
     static struct command c;
     unsigned long long s[4];
-    unsigned n[5], x = 0, y = 0;
+    unsigned n[6], x = 0, y = 0;
     size_t len = 0, room = 0;
     for (char *w = strtok(words, " \n"); w != NULL; w = strtok(NULL, " \n")) {
         if (strncmp(w, "file=", 5) == 0)
             for (w += 5; len < BUFFER && w[0] != 0 && w[1] != 0; w += 2)
                 file[len++] = strtoul((char[]){w[0], w[1], 0}, NULL, 16);
-        else if (sscanf(w, "numbers=%u,%u,%u,%u,%u,%llx,%llx,%llx,%llx", n, n + 1, n + 2, n + 3, n + 4, s, s + 1,
-                        s + 2, s + 3) == 9)
-            c = (struct command){n[0], n[1], n[2], n[3], n[4], s[0], s[1], s[2], s[3]};
+        else if (sscanf(w, "numbers=%u,%u,%u,%u,%u,%u,%llx,%llx,%llx,%llx", n, n + 1, n + 2, n + 3, n + 4, n + 5, s, s + 1,
+                        s + 2, s + 3) == 10)
+            c = (struct command){n[0], n[1], n[2], n[3], n[4], n[5], s[0], s[1], s[2], s[3]};
         else if (sscanf(w, "x=%u", &x) != 1 && sscanf(w, "y=%u", &y) != 1) sscanf(w, "room=%zu", &room);
     }
     open_file(&o, file, len);

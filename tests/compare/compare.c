@@ -13,7 +13,7 @@
 struct size {
     long commands, files, least; /* least: of every class */
 };
-static const struct size sample = {12000, 3600, 8}, full = {1000000, 300000, 1000};
+static const struct size sample = {12000, 4200, 8}, full = {1000000, 300000, 1000};
 
 /* ---- commands on boards */
 
@@ -56,13 +56,19 @@ static void run_commands(int count)
     }
 }
 
-/* Adds roles only, so that the board grows by commands to the size wanted. */
+/* Adds roles only, so that the board grows by commands to the size wanted; most get what rights their makers may use. */
 static void grow(int roles)
 {
     struct command c;
     for (int k = 0; k < 20 * roles && role_count(&here.board) < roles; k++) {
         do draw_command(&here, &c);
         while (c.code != ADD_ROLE);
+        if (try_apply(&here, &board, &c, &after) != 0) continue;
+        here = after;
+        to_board(&here, &board);
+        if (chance(40)) continue;
+        c.code = GIVE_RIGHTS, c.rights = 0;
+        for (int right = 1; right <= RIGHTS; right++) c.rights |= may_use(&here, c.actor, right) << (right - 1);
         if (try_apply(&here, &board, &c, &after) != 0) continue;
         here = after;
         to_board(&here, &board);
@@ -91,7 +97,7 @@ static void refused_board(const char *way)
     struct command c;
     size_t room, at;
     draw_command(&here, &c);
-    if (chance(30)) c.code = below(7);
+    if (chance(30)) c.code = below(9);
     uint8_t number = try_apply(&here, &board, &c, &after);
     if (number != 1) disagree("%s: made to be unsound, and both give %u", way, number);
     choose_place(below(PLACES), put_file(&here.board, whole), &room, &at);
@@ -112,6 +118,11 @@ static void unsound_boards(void)
         refused_board(wrong_way[way]);
         tally.wrong[way]++;
     }
+    for (int way = 0; way < RIGHTS_WAYS; way++) {
+        if (!draw_bad_rights(way, &here, &board)) continue;
+        refused_board(rights_way[way]);
+        tally.bad_rights[way]++;
+    }
 }
 
 /* The board in hand to every place: what is wrong with the board comes first. */
@@ -124,7 +135,7 @@ static void write_everywhere(bool is_sound)
         choose_place(place, len, &room, &at);
         uint8_t number = try_write(&here, &board, room, at);
         if (number != want) disagree("%s: made to give %u, and both give %u", places[place].name, want, number);
-        tally.place[place][is_sound]++;
+        tally.place[place][!is_sound ? 0 : founders_alone(&here.board) ? 1 : 2]++;
     }
 }
 
@@ -132,10 +143,20 @@ static void written_boards(void)
 {
     try_found();
     draw_sound(&here, chance(90) ? 12 : 40);
+    if (chance(40)) hh_rights(&here.board);
     start();
     write_everywhere(true);
-    if (chance(50) ? draw_unsound(below(UNSOUND_WAYS), &here, &board) : draw_wrong(below(WRONG_WAYS), &here, &board))
-        write_everywhere(false);
+    switch (below(3)) {
+    case 0:
+        if (!draw_unsound(below(UNSOUND_WAYS), &here, &board)) return;
+        break;
+    case 1:
+        if (!draw_wrong(below(WRONG_WAYS), &here, &board)) return;
+        break;
+    default:
+        if (!draw_bad_rights(below(RIGHTS_WAYS), &here, &board)) return;
+    }
+    write_everywhere(false);
 }
 
 /* ---- files */
@@ -150,7 +171,7 @@ static uint32_t some_role(void)
     if (chance(6)) return chance(50) ? ROLES : ROLES + below(256 - ROLES);
     if (chance(8)) return r;
     for (int k = 0; k < ROLES && !opened.view.board.live[r]; k++) r = (r + 1) % ROLES;
-    return chance(10) ? wide(r) : (uint32_t)r;
+    return chance(12) ? wide(r) : (uint32_t)r;
 }
 
 /* Long enough, exactly so, one byte short, nothing, or any. */
@@ -159,7 +180,7 @@ static size_t some_room(const struct command *c)
     static uint8_t out[ROOM];
     if (chance(60)) return chance(90) ? 1000 : ROOM;
     if (chance(15)) return 0;
-    if (chance(20)) return below(FILE_MOST + 20);
+    if (chance(20)) return below(HR_MOST + 20);
     uint64_t answer = answer_command(&opened, c, out, ROOM);
     if (BOARD_NUMBER(answer) != 0) return below(200);
     if (chance(50)) return BOARD_VALUE(answer);
@@ -179,7 +200,7 @@ static void ask_some(int commands, int questions)
     }
     for (int k = 0; k < commands; k++) {
         draw_command(&opened.view, &c);
-        if (opened.number != 0 && chance(50)) c.code = below(7); /* the file's refusal comes first, whatever the code */
+        if (opened.number != 0 && chance(80)) c.code = below(9); /* the file's refusal comes first, whatever the code */
         try_command(&opened, &c, some_room(&c));
     }
 }
@@ -202,12 +223,13 @@ static bool try_file(int damage, struct view *v)
     size_t len = make_file(damage, v, file);
     if (len == 0 && damage != EMPTY) return false;
     open_file(&opened, file, len);
+    bool hr = damage != EMPTY && !founders_alone(&v->board), by_mark = ends_with(file, len, "HR");
     tally.files++;
-    tally.damage[damage][opened.number]++;
-    if (len == FILE_MOST) tally.longest_file++;
-    if (len == FILE_MOST + 1) tally.too_long_file++;
-    if (len == FILE_MOST && opened.number == 7) tally.many_edges++;
-    ask_some(damage == AS_WRITTEN ? 4 : 1, 2);
+    tally.damage[damage][hr][opened.number]++;
+    for (int k = 0; k < 4; k++)
+        if (len == (size_t)(k < 2 ? HH_MOST : HR_MOST) + k % 2) tally.file_of[by_mark][k]++;
+    if (len == HH_MOST && !by_mark && opened.number == 7) tally.many_edges++;
+    ask_some(damage == AS_WRITTEN ? 4 : opened.number == 7 || opened.number == 9 ? 2 : 1, 2);
     if (damages[damage].number != ANY_NUMBER && opened.number != damages[damage].number) {
         try_question(&opened, CHECK, 0, 0);
         disagree("%s: made to give %u, and both give %u", damages[damage].name, damages[damage].number, opened.number);
@@ -219,7 +241,7 @@ static void files_of_a_board(void)
 {
     static struct view v;
     for (int damage = 0; damage < damage_count; damage++) {
-        if (damages[damage].long_file && !chance(25)) continue;
+        if (damages[damage].long_file && !chance(50)) continue;
         for (int k = 0; k < 4; k++) { /* not every board can be damaged so */
             draw_sound(&v, chance(95) ? 10 : 40);
             if (try_file(damage, &v)) break;
@@ -240,37 +262,57 @@ static void try_both(const struct command *c)
     try_command(&opened, c, ROOM);
 }
 
+static int some_lack(void) { return ONE_ABOVE + below(SOURCES - ONE_ABOVE); }
+
+/* The command, and again by an actor that may not give it. */
+static void try_both_ways(const struct command *c)
+{
+    struct model was = here.board;
+    try_both(c);
+    if (!place_rights(&here, c, some_lack())) place_rights(&here, c, NOBODY);
+    to_board(&here, &board);
+    try_both(c);
+    here.board = was;
+    to_board(&here, &board);
+}
+
+static void start_with_rights(void)
+{
+    if (chance(80)) all_rights(&here.board);
+    start();
+}
+
 static void rare_refusals(void)
 {
     struct command c;
     draw_tied(&here);
-    start();
-    draw_refused(&here, ADD_ROLE, 9, &c), try_both(&c);
-    draw_refused(&here, ADD_EDGE, 9, &c), try_both(&c);
+    start_with_rights();
+    draw_refused(&here, ADD_ROLE, 9, &c), try_both_ways(&c);
+    draw_refused(&here, ADD_EDGE, 9, &c), try_both_ways(&c);
     draw_part_refused(&here, ADD_EDGE, 9, &c), try_both(&c);
-    draw_refused(&here, CHANGE_EDGE, 9, &c), try_both(&c);
+    draw_refused(&here, CHANGE_EDGE, 9, &c), try_both_ways(&c);
     open_file(&opened, file, make_file(AS_WRITTEN, &here, file));
     for (int k = 0; k < 10; k++) {
         uint32_t a = some_role(), r = some_role();
         try_question(&opened, SCOPE, a, r);
     }
     draw_chained(&here);
-    start();
-    draw_refused(&here, ADD_ROLE, 7, &c), try_both(&c);
+    start_with_rights();
+    draw_refused(&here, ADD_ROLE, 7, &c), try_both_ways(&c);
     if (draw_hidden_loop(&here, &c)) try_both(&c);
     draw_forked(&here);
-    start();
+    start_with_rights();
     draw_part_refused(&here, REMOVE_EDGE, 9, &c), try_both(&c);
 }
 
 /* A role that offends wherever a command can name one, by every cause, and more than one at once. */
 static void offending_roles(void)
 {
-    static const uint8_t codes[] = {1, 1, 1, 1, 2, 2, 3, 3, 4, 4, 5, 5};
+    static const uint8_t codes[] = {1, 1, 1, 1, 2, 2, 3, 3, 4, 4, 5, 5, 6, 6, 7, 7};
     struct command c;
     if (chance(80)) draw_crossed(&here);
     else draw_sound(&here, 12);
-    start();
+    start_with_rights();
     open_file(&opened, file, make_file(AS_WRITTEN, &here, file));
     for (size_t k = 0; k < sizeof codes; k++) {
         draw_offence(&here, codes[k], &c);
@@ -279,6 +321,90 @@ static void offending_roles(void)
         try_command(&opened, &c, ROOM);
         if (c.code != ADD_ROLE) try_question(&opened, SCOPE, c.actor, c.role);
     }
+}
+
+/* Every number of every code, and the rights that the command asks for put where it counts who has them. */
+static void whose_rights(void)
+{
+    struct command c;
+    for (int code = ADD_ROLE; code <= TAKE_RIGHTS; code++)
+        for (int number = 0; number < 10; number++) {
+            if (number == 1 || !can_give(code, number)) continue;
+            if (number == 7 || chance(15)) draw_chained(&here);
+            else if (number == 9 || chance(30)) draw_tied(&here);
+            else draw_crossed(&here);
+            all_rights(&here.board);
+            start();
+            int source = number == 9 ? some_lack() : chance(10) ? ONE_REACHED : below(SOURCES);
+            for (int tries = number == 9 ? 1 : 3; tries > 0; tries--) { /* not every actor has such a role */
+                if (number == 6) draw_offence(&here, code, &c);
+                else draw_refused(&here, code, number < 6 ? 0 : number, &c);
+                if (place_rights(&here, &c, source)) break;
+                if (tries == 1) place_rights(&here, &c, NOBODY);
+            }
+            if (number > 1 && number < 6) draw_spoilt(&here, number, &c);
+            to_board(&here, &board);
+            try_both(&c);
+        }
+}
+
+static uint32_t some_rights(void) { return 1 + below(ALL_RIGHTS); }
+
+/* Two bytes, not 0, of which the first has the second and more, where there is more. */
+static void rights_within(uint32_t *all, uint32_t *part)
+{
+    *all = some_rights();
+    *part = *all & some_rights();
+    if (*part == 0 || *part == *all) *part = *all & -*all;
+}
+
+/* What 6 and 7 do at the actor itself, which is in its own scope: the last right of a board goes, and rights of roles that
+ * it derives become its own. Then a byte that is none. */
+static void rights_of_its_own(void)
+{
+    struct command c;
+    uint32_t all, part, x = 0, y = 0;
+    draw_sound(&here, 10);
+    for (int k = 0; k < 60; k++) {
+        uint32_t a = chance(30) ? 0 : below(ROLES), d = below(ROLES);
+        if (here.board.live[a] && here.derives[a][d]) x = a, y = d;
+        if (x != y) break;
+    }
+    rights_within(&all, &part);
+    for (int k = 0; k < 6; k++) {
+        static const uint32_t code[] = {TAKE_RIGHTS, GIVE_RIGHTS, GIVE_RIGHTS, TAKE_RIGHTS, GIVE_RIGHTS, TAKE_RIGHTS};
+        draw_command(&here, &c);
+        memset(here.board.rights, 0, sizeof here.board.rights);
+        here.board.rights[k == 0 ? x : y] = all;
+        if (k == 1 || k == 3) here.board.rights[x] |= part;
+        start();
+        c.code = code[k], c.actor = c.role = x, c.rights = all;
+        if (k == 0 && chance(30)) c.actor = 0;
+        if (k >= 4) c.rights = chance(30) ? ALL_RIGHTS + 1 : chance(50) ? all | 32 << below(3) : wide(all);
+        try_both(&c);
+    }
+}
+
+/* One right more or less than HH means, and then gone, or back; and one given where HH is the file. */
+static void nearly_hh(void)
+{
+    struct command c;
+    draw_sound(&here, 10);
+    for (int k = 0; k < 3; k++) {
+        uint32_t x = 0;
+        nearly_hh_rights(&here.board);
+        start();
+        while (x < ROLES - 1 && here.board.rights[x] == (x == 0 ? ALL_RIGHTS : 0)) x++;
+        draw_command(&here, &c);
+        c.code = x == 0 ? GIVE_RIGHTS : TAKE_RIGHTS, c.actor = c.role = x;
+        c.rights = x == 0 ? ALL_RIGHTS & ~here.board.rights[0] : here.board.rights[x];
+        if (chance(20)) c.rights = ALL_RIGHTS;
+        if (chance(10)) c.actor = 0;
+        try_both(&c);
+    }
+    hh_rights(&here.board);
+    start();
+    draw_refused(&here, GIVE_RIGHTS, 0, &c), try_both(&c);
 }
 
 /* ---- all that is largest */
@@ -292,14 +418,15 @@ static void largest_boards(void)
     case 1: draw_tree(&here, ROLES - 1); break; /* one role is free */
     default: draw_full(&here, chance(50));
     }
+    if (chance(50)) hh_rights(&here.board);
     v = here;
     start();
-    try_write(&here, &board, FILE_MOST + below(20), below(10));
+    try_write(&here, &board, HR_MOST + below(20), below(10));
     run_commands(6);
     v = chance(50) ? v : here;
     try_file(AS_WRITTEN, &v);
     draw_command(&opened.view, &c);
-    try_command(&opened, &c, chance(50) ? FILE_MOST : FILE_MOST - 1);
+    try_command(&opened, &c, (founders_alone(&opened.view.board) ? HH_MOST : HR_MOST) - below(2));
 }
 
 /* A chain: role 0 is 63 steps away. */
@@ -311,6 +438,7 @@ static void deepest_board(void)
         v.board.live[x] = true;
         v.board.kind[x - 1][x] = 1 + below(3);
     }
+    draw_rights(&v.board);
     look(&v);
     try_file(AS_WRITTEN, &v);
     for (int x = 0; x <= ROLES; x++) {
@@ -333,6 +461,9 @@ static int run(const struct size *size, uint64_t seed)
         files_of_a_board();
         rare_refusals();
         offending_roles();
+        whose_rights();
+        rights_of_its_own();
+        nearly_hh();
         if (round % 2 == 0) largest_boards();
         if (round == 0) deepest_board();
     }

@@ -21,15 +21,33 @@ void draw_chained(struct view *v);          /* small, sound, with roles that rea
 void draw_forked(struct view *v);           /* small, sound, with a role that one part of an edge keeps managed */
 void draw_crossed(struct view *v);          /* small, sound, with roles in each other's way */
 void draw_command(const struct view *v, struct command *c);
-enum { CODE, ACTOR, ROLE, JUNIOR, KIND, FIELDS };
+enum { CODE, ACTOR, ROLE, JUNIOR, KIND, THE_RIGHTS, FIELDS };
 uint32_t *field_of(struct command *c, int field);
+bool uses_field(const struct command *c, int field);
 /* Draws until the model gives this number, for some are rare, or gives up and stays with a command that is done. */
 void draw_refused(const struct view *v, int code, int number, struct command *c);
 void draw_part_refused(const struct view *v, int code, int number, struct command *c); /* where another kind stands */
+void draw_spoilt(const struct view *v, int number, struct command *c); /* a fair one made to give 2 to 5 */
 /* A 6, for a role at a place in the command and by a cause that are drawn too; or gives up, with any command. */
 void draw_offence(const struct view *v, int code, struct command *c);
 /* An edge whose junior reaches its senior and doesn't derive it. */
 bool draw_hidden_loop(const struct view *v, struct command *c);
+
+void draw_rights(struct model *m); /* as all that is drawn above has them */
+void all_rights(struct model *m);
+void hh_rights(struct model *m);
+void nearly_hh_rights(struct model *m); /* one right more or less */
+void hr_rights(struct model *m);        /* others than HH's; they stay where they are */
+/* Whose a right is that an actor may use, or may not. */
+enum { ITS_OWN, OF_ONE_DERIVED, ONE_ABOVE, ONE_REACHED, ONE_ASIDE, NOBODY, SOURCES };
+extern const char *const source_name[SOURCES];
+bool stands(const struct view *v, int source, int a, int x);
+/* The rights that a command asks for, all or one of them, come from this source alone; the actor has the rest. False where the
+ * board has no such role. */
+bool place_rights(struct view *v, const struct command *c, int source);
+enum { RIGHTS_WAYS = 5 };
+extern const char *const rights_way[RIGHTS_WAYS];
+bool draw_bad_rights(int way, struct view *v, struct board *b); /* sound but for its rights */
 
 enum { UNSOUND_WAYS = 8 };
 extern const char *const unsound_way[UNSOUND_WAYS];
@@ -49,18 +67,21 @@ void choose_place(int place, size_t len, size_t *room, size_t *at); /* for a fil
 
 /* ---- damage.c: board files, good and bad */
 enum { ANY_NUMBER = 255, BUFFER = 65536 + FILE_MAX, ROOM = 16384 };
-struct parts; /* role bytes and edge records */
+struct made; /* role bytes, edge records and rights */
+enum mark { EITHER, ONLY_HH, ONLY_HR };
 struct damage {
     const char *name;
     uint8_t number; /* the number that the way of making it demands, or ANY_NUMBER */
-    bool (*record)(struct parts *, struct view *);
+    enum mark mark;
+    bool (*record)(struct made *, struct view *);
     size_t (*frame)(uint8_t *, size_t);
     bool long_file; /* dear, so made less often */
 };
 extern const struct damage damages[];
 extern const int damage_count;
 enum { EMPTY, AS_WRITTEN }; /* the first two of the list; the first alone has no bytes */
-size_t make_file(int damage, struct view *v, uint8_t *file); /* the length; 0: v can't be damaged so, or EMPTY */
+/* The length; 0: v can't be damaged so, or EMPTY. But for AS_WRITTEN, v gets the rights of an HH or an HR file. */
+size_t make_file(int damage, struct view *v, uint8_t *file);
 
 /* ---- cases.c: one call at a time, on both sides */
 enum call { APPLY, COMMAND, CHECK, DERIVES, SCOPE, MANAGER, STEPS, STRETCH, FOUND, READ, WRITE, CALL_COUNT };
@@ -81,32 +102,46 @@ void watch_for_crashes(void);
 /* ---- tally.c: how often each number arose */
 /* The role in the way: 0; the lowest of several; and lower numbers that are not in the way, for four reasons. */
 enum { ROLE_0, OF_SEVERAL, PAST_ABOVE, PAST_BELOW, PAST_ASIDE, PAST_DEAD, WAYS };
+enum { CODES = 8, NUMBERS = 14 };
+/* What became of the rights that 6 and 7 name. */
+enum { NONE_NAMED, NONE_CHANGED, SOME_CHANGED, ALL_CHANGED, AT_ITSELF, AT_ROLE_0, NONE_LEFT, SOME_USABLE, OUTCOMES };
 struct tally {
     long commands, files, calls;
-    long apply[6][13];
-    long command[6][3][13];
-    long question[CALL_COUNT][3][13];
+    long apply[CODES][NUMBERS];
+    long command[CODES][3][NUMBERS];
+    long question[CALL_COUNT][3][NUMBERS];
     long value[CALL_COUNT][2]; /* number 0 with value: none or no, some or yes */
-    long found, read[13], write[13];
+    long found, read[2][NUMBERS], write[NUMBERS]; /* read from HH and from HR */
     long unsound[UNSOUND_WAYS][2]; /* all, and those with the right stored values for such tables */
     long wrong[WRONG_WAYS];
-    long place[PLACES][2]; /* of a board that isn't sound, and of one that is */
-    long damage[64][13];
+    long bad_rights[RIGHTS_WAYS];
+    long place[PLACES][3]; /* of a board that isn't sound, and of one that is, as HH and as HR */
+    long damage[64][2][NUMBERS]; /* in HH and in HR */
     long parts[2][3][4][4]; /* of apply and command, by code of an edge: kind named, kind standing */
     long kind_range[3][3];  /* by code of an edge, 2 for the kind alone: 0, to 255, above */
-    long cause[2][6][NAMED][4];   /* of a 6 from apply and command: code, where the offending role is named, cause */
+    long cause[2][CODES][NAMED][4];   /* of a 6 from apply and command: code, where the offending role is named, cause */
     long beside[2][NAMED][NAMED]; /* where that is, and where another offends that would be named if looked for there */
     long actor_named[2][NAMED];   /* the actor stands there, where scope is enough, and a later role offends */
-    long unnamed[2][6];           /* a role offends, and another number comes first */
+    long unnamed[2][NUMBERS];     /* a role offends, and another number comes first */
+    long source[2][CODES][SOURCES]; /* of a right asked for: past 13 by the first two, 13 by the others */
+    long first[2][CODES][NUMBERS];  /* 2 to 5, though a right is lacking, too */
+    long later[2][CODES][NUMBERS];  /* 13, and what would come if no right were lacking */
+    long outcome[2][2][OUTCOMES];   /* of 6 and 7 */
+    long rights_range[2][2][3];     /* of 6 and 7, 2 for the rights alone: 32, to 255, above */
+    long marks[2][2];               /* a command that is done: HH or HR before, and after */
+    long stretch[2];                /* with bytes, in HH and in HR */
     long way[CALL_COUNT][WAYS];   /* cause 2, of apply, command and scope */
     long scope[4];                /* yes, and a no by its cause */
-    long full_roles, full_edges, longest_file, too_long_file, many_edges; /* edges of size */
+    long full_roles, full_edges, file_of[2][4], many_edges; /* edges of size; 6,118, 6,119, 6,184 and 6,185 bytes */
     long room_exact, room_short, room_none, idle_change, most_steps;
     long hidden_loop, seniors_in_scope, part_added, part_taken; /* where a careful reader slips; the last two give 9 */
-    long wide_used[2][FIELDS], wide_unused[2][FIELDS]; /* above 255, of apply and command: 2 for that alone; done */
+    long wide_used[2][FIELDS];          /* above 255, of apply and command: 2 for that alone */
+    long wide_unused[2][CODES][FIELDS]; /* and done */
+    long removed_with_rights;
     long wide_role[CALL_COUNT][2];                     /* above 255, first or second of a question: 2 for that alone */
 };
 extern struct tally tally;
+bool can_give(int code, int number); /* on a sound board */
 int print_tally(long least); /* how many classes are not filled, or filled though they can't be */
 
 #endif

@@ -1,4 +1,4 @@
-/* Boards drawn as graphs, and commands that stand a fair chance of each number. */
+/* Boards drawn as graphs, with rights, and commands that stand a fair chance of each number. */
 #include "compare.h"
 #include <string.h>
 
@@ -43,6 +43,7 @@ void draw_tree(struct view *v, int roles)
         v->board.live[order[k]] = true;
         draw_edge(&v->board, order[senior], order[k]);
     }
+    draw_rights(&v->board);
     look(v);
 }
 
@@ -55,6 +56,7 @@ void draw_full(struct view *v, bool mixed)
         v->board.live[order[k]] = true;
         for (int s = 0; s < k; s++) v->board.kind[order[s]][order[k]] = mixed ? 1 + below(3) : 3;
     }
+    draw_rights(&v->board);
     look(v);
 }
 
@@ -143,12 +145,14 @@ void draw_any(struct view *v, int most)
     if (most > 8 && chance(30)) draw_knot(&v->board, order);
     else if (most > 8 && chance(15)) draw_chain(&v->board, order);
     else draw_edges(&v->board, order, roles, 5 + below(60));
+    draw_rights(&v->board);
     look(v);
 }
 
 static void drop_role(struct model *m, int r)
 {
     m->live[r] = false;
+    m->rights[r] = 0;
     for (int x = 0; x < ROLES; x++) m->kind[x][r] = m->kind[r][x] = 0;
 }
 
@@ -184,6 +188,7 @@ void draw_tied(struct view *v)
     int order[ROLES];
     draw_order(order);
     draw_knot(&v->board, order);
+    draw_rights(&v->board);
     make_sound(v);
 }
 
@@ -192,6 +197,7 @@ void draw_chained(struct view *v)
     int order[ROLES];
     draw_order(order);
     draw_chain(&v->board, order);
+    draw_rights(&v->board);
     look(v);
 }
 
@@ -200,6 +206,7 @@ void draw_forked(struct view *v)
     int order[ROLES];
     draw_order(order);
     draw_fork(&v->board, order);
+    draw_rights(&v->board);
     look(v);
 }
 
@@ -208,6 +215,7 @@ void draw_crossed(struct view *v)
     int order[ROLES];
     draw_order(order);
     draw_cross(&v->board, order);
+    draw_rights(&v->board);
     look(v);
 }
 
@@ -257,6 +265,111 @@ static bool pick_edge(const struct model *m, uint32_t *senior, uint32_t *junior)
         }
     }
     return false;
+}
+
+/* ---- rights */
+
+static uint8_t any_rights(void) { return below(ALL_RIGHTS + 1); }
+static uint8_t any_right(void) { return 1 << below(RIGHTS); }
+
+/* Many at most roles, as a rule, or few commands would get past 13. */
+void draw_rights(struct model *m)
+{
+    int way = below(100), percent = chance(50) ? 100 : 70;
+    for (int x = 0; x < ROLES; x++) {
+        m->rights[x] = 0;
+        if (!m->live[x]) continue;
+        if (way < 65) m->rights[x] = chance(percent) ? ALL_RIGHTS : any_rights();
+        else if (way < 75) m->rights[x] = any_rights();
+        else if (way < 80) m->rights[x] = chance(25) ? any_right() | any_right() : 0;
+        else if (way < 85) m->rights[x] = x == 0 ? 0 : any_rights(); /* all that role 0 may use is others' */
+        else if (way < 98) m->rights[x] = x == 0 ? ALL_RIGHTS : 0;   /* HH */
+    }
+}
+
+void all_rights(struct model *m)
+{
+    for (int x = 0; x < ROLES; x++) m->rights[x] = m->live[x] ? ALL_RIGHTS : 0;
+}
+
+void hh_rights(struct model *m)
+{
+    memset(m->rights, 0, sizeof m->rights);
+    m->rights[0] = ALL_RIGHTS;
+}
+
+void nearly_hh_rights(struct model *m)
+{
+    hh_rights(m);
+    m->rights[pick_live(m)] ^= any_right();
+}
+
+void hr_rights(struct model *m)
+{
+    while (founders_alone(m))
+        if (chance(50)) nearly_hh_rights(m);
+        else draw_rights(m);
+}
+
+const char *const source_name[SOURCES] = {"its own", "of one it derives", "one above", "one it only reaches",
+                                          "one aside", "nobody"};
+
+/* x stands so to a. */
+bool stands(const struct view *v, int source, int a, int x)
+{
+    if (!v->board.live[x]) return false;
+    if (x == a) return source == ITS_OWN;
+    if (v->derives[a][x]) return source == OF_ONE_DERIVED;
+    if (v->derives[x][a]) return source == ONE_ABOVE;
+    return source == (v->reaches[a][x] ? ONE_REACHED : ONE_ASIDE);
+}
+
+bool place_rights(struct view *v, const struct command *c, int source)
+{
+    bool among[ROLES];
+    int asked[RIGHTS], count = 0;
+    for (int x = 0; x < ROLES; x++) among[x] = stands(v, source, c->actor, x);
+    int holder = pick(among);
+    if (holder == NONE && source != NOBODY) return false;
+    for (int right = 1; right <= RIGHTS; right++)
+        if (asks_for(c, right)) asked[count++] = right;
+    /* all that are asked for, or one of them, and the actor has the others */
+    int from = below(count + 1), only = from < count && chance(60);
+    for (int k = 0; k < count; k++) {
+        uint8_t bit = 1 << (asked[k] - 1);
+        if (only && k != from) {
+            v->board.rights[c->actor] |= bit;
+            continue;
+        }
+        for (int x = 0; x < ROLES; x++) v->board.rights[x] &= ~bit;
+        if (source != NOBODY) v->board.rights[holder] |= bit;
+    }
+    return count > 0;
+}
+
+const char *const rights_way[RIGHTS_WAYS] = {"a right at a role that isn't live", "above 31, of a live role",
+                                             "above 31, of one that isn't", "32 at role 63", "noise"};
+
+bool draw_bad_rights(int way, struct view *v, struct board *b)
+{
+    if (chance(5)) draw_tree(v, ROLES - below(2));
+    else draw_sound(v, chance(90) ? 10 : 30);
+    keep(v);
+    struct model *m = &v->board;
+    int live = chance(20) ? 0 : pick_live(m), dead = pick_dead(m);
+    if (chance(15) && !m->live[ROLES - 1]) dead = ROLES - 1;
+    if (dead == NONE && (way == 0 || way == 2)) return false;
+    uint8_t above = chance(40) ? ALL_RIGHTS + 1 : 32 << below(3) | any_rights();
+    switch (way) {
+    case 0: m->rights[dead] = chance(50) ? any_right() : 1 + below(ALL_RIGHTS); break;
+    case 1: m->rights[live] = chance(30) ? m->rights[live] | 32 << below(3) : above; break;
+    case 2: m->rights[dead] = above; break;
+    case 3: m->rights[ROLES - 1] |= ALL_RIGHTS + 1; break;
+    default:
+        for (int x = 0; x < ROLES; x++) m->rights[x] = below(256);
+    }
+    to_board(v, b);
+    return true;
 }
 
 /* ---- unsound boards */
@@ -318,6 +431,8 @@ bool draw_unsound(int way, struct view *v, struct board *b)
         for (x = 0; x < ROLES; x++) b->i[x] = draw64(), b->a[x] = draw64() & draw64();
     }
     from_board(b, v);
+    for (x = 0; x < ROLES; x++)
+        if (!m->live[x]) m->rights[x] = 0;
     /* mostly the values that belong to these tables, so that the tables alone are at fault; or what stood before */
     if (chance(70)) keep(v);
     else if (chance(30)) noisy_values(&v->stored);
@@ -425,7 +540,7 @@ void choose_place(int place, size_t len, size_t *room, size_t *at)
     case 7: *at = *room; break;
     case 8: *at = *room + 1; break;
     case 9: *at = SIZE_MAX; break;
-    default: *at = SIZE_MAX - below(TRAILER); /* with the length of any file it comes to a place within */
+    default: *at = SIZE_MAX - below(HH_TRAILER); /* with the length of any file it comes to a place within */
     }
 }
 
@@ -483,7 +598,7 @@ static void fair_old_edge(const struct view *v, struct command *c)
         return;
     }
     for (int k = 0; k < 8; k++) {
-        if (in_scope(v, c->actor, c->role) && in_scope(v, c->actor, c->junior)) break;
+        if (in_scope(v, c->actor, c->role) && in_scope(v, c->actor, c->junior) && !lacks_right(v, c)) break;
         c->actor = k == 0 ? c->role : (uint32_t)pick_live(&v->board);
     }
 }
@@ -497,34 +612,63 @@ static void fair_edge(const struct view *v, struct command *c)
     if (c->code == REMOVE_EDGE && standing != 0 && chance(40)) c->kind = standing; /* or too many would give 5 */
 }
 
+/* Mostly what the actor may use, and mostly something that is changed by it. */
+static void fair_rights(const struct view *v, struct command *c)
+{
+    int scope[ROLES], count = roles_in_scope(v, c->actor, scope);
+    c->role = scope[below(count)];
+    uint8_t held = v->board.rights[c->role], usable = 0;
+    for (int right = 1; right <= RIGHTS; right++) usable |= may_use(v, c->actor, right) << (right - 1);
+    c->rights = chance(5) ? 0 : chance(40) ? any_right() : chance(15) ? ALL_RIGHTS : any_rights();
+    if (chance(75)) c->rights &= usable;
+    uint8_t changed = c->code == GIVE_RIGHTS ? c->rights & ~held : c->rights & held;
+    if (changed != 0 && chance(40)) c->rights = changed;
+}
+
 static uint32_t out_of_range(void) { return chance(40) ? ROLES : ROLES + below(256 - ROLES); }
+
+static uint32_t bad_rights(void)
+{
+    int least = ALL_RIGHTS + 1;
+    return chance(40) ? least : chance(50) ? least << below(3) | any_rights() : chance(50) ? 255 : least + below(224);
+}
 
 static void spoil_range(struct command *c)
 {
+    if (on_rights(c) && chance(40)) {
+        c->rights = bad_rights();
+        return;
+    }
     switch (below(4)) {
     case 0: c->actor = out_of_range(); break;
     case 1: c->role = out_of_range(); break;
     case 2:
-        if (c->code >= ADD_EDGE) c->junior = out_of_range();
+        if (on_edge(c)) c->junior = out_of_range();
         else c->role = out_of_range();
         break;
     default:
-        if (c->code >= ADD_EDGE) c->kind = chance(50) ? 0 : 4 + below(chance(50) ? 1 : 252);
+        if (on_edge(c)) c->kind = chance(50) ? 0 : 4 + below(chance(50) ? 1 : 252);
         else c->actor = out_of_range();
     }
 }
 
 uint32_t *field_of(struct command *c, int field)
 {
-    uint32_t *const at[FIELDS] = {&c->code, &c->actor, &c->role, &c->junior, &c->kind};
+    uint32_t *const at[FIELDS] = {&c->code, &c->actor, &c->role, &c->junior, &c->kind, &c->rights};
     return at[field];
+}
+
+bool uses_field(const struct command *c, int field)
+{
+    if (field == JUNIOR || field == KIND) return on_edge(c);
+    return field != THE_RIGHTS || on_rights(c);
 }
 
 /* A number that is used, and right but for its bits above the lowest 8. */
 static void spoil_width(struct command *c)
 {
     int field = below(FIELDS);
-    if (field >= JUNIOR && c->code < ADD_EDGE) field = ROLE;
+    if (!uses_field(c, field)) field = on_rights(c) ? THE_RIGHTS : ROLE;
     *field_of(c, field) = wide(*field_of(c, field));
 }
 
@@ -543,7 +687,7 @@ static void spoil_live(const struct view *v, struct command *c)
     case 3: c->i_juniors |= one(dead); break;
     case 4: *(chance(50) ? &c->i_seniors : &c->a_juniors) |= one(c->role); break; /* the new role in its own sets */
     case 5: c->role = dead; break;
-    default: *(c->code >= ADD_EDGE ? &c->junior : &c->role) = dead;
+    default: *(on_edge(c) ? &c->junior : &c->role) = dead;
     }
     if (c->code == ADD_ROLE && chance(20)) c->role = pick_live(&v->board); /* 4 holds too */
 }
@@ -555,7 +699,7 @@ static void spoil_scope(const struct view *v, struct command *c)
     case 0: c->actor = pick_live(m); break;
     case 1:
         if (c->code == ADD_ROLE) name(pick_live(m), &c->i_seniors, &c->a_seniors);
-        else if (c->code == REMOVE_ROLE || c->code == ADD_EDGE) c->role = pick_live(m);
+        else if (c->code == REMOVE_ROLE || c->code == ADD_EDGE || on_rights(c)) c->role = pick_live(m);
         else c->actor = pick_live(m);
         break;
     case 2:
@@ -582,15 +726,25 @@ static void spoil_standing(const struct view *v, struct command *c)
     }
 }
 
+/* An actor, or for 6 and 7 a byte, for which a right is lacking, where there is one. */
+static void spoil_right(const struct view *v, struct command *c)
+{
+    for (int k = 0; k < 10 && !lacks_right(v, c); k++) {
+        if (on_rights(c) && chance(50)) c->rights |= any_right();
+        else c->actor = pick_live(&v->board);
+    }
+}
+
 static uint32_t any_number(void) { return chance(30) ? wide(below(256)) : (uint32_t)below(256); }
 
 /* What a command doesn't use may hold anything, so every field starts as noise. */
 static void noise(struct command *c)
 {
     c->code = any_number(), c->actor = any_number(), c->role = any_number();
-    c->junior = any_number(), c->kind = any_number();
+    c->junior = any_number(), c->kind = any_number(), c->rights = any_number();
     c->a_seniors = draw64(), c->i_seniors = draw64(), c->a_juniors = draw64(), c->i_juniors = draw64();
     if (chance(50)) c->junior &= 63, c->kind &= 3;
+    if (chance(30)) c->rights &= ALL_RIGHTS;
     if (chance(30)) c->a_seniors = c->i_seniors = c->a_juniors = c->i_juniors = 0;
 }
 
@@ -600,46 +754,60 @@ static void draw_of_code(const struct view *v, int code, struct command *c)
     c->code = code;
     c->actor = chance(30) ? 0 : pick_live(&v->board);
     if (!v->board.live[c->actor]) return; /* an empty board: no fair command */
+    for (int k = 0; k < 6 && !on_rights(c) && lacks_right(v, c); k++) c->actor = pick_live(&v->board);
     switch (c->code) {
     case ADD_ROLE: fair_add_role(v, c); break;
     case REMOVE_ROLE: fair_remove_role(v, c); break;
+    case GIVE_RIGHTS:
+    case TAKE_RIGHTS: fair_rights(v, c); break;
     default: fair_edge(v, c);
     }
 }
 
 void draw_command(const struct view *v, struct command *c)
 {
-    static const uint8_t codes[] = {1, 1, 1, 2, 3, 3, 3, 4, 4, 5, 5};
-    if (chance(2)) { /* a code outside 1 to 5, whatever else */
-        noise(c);
-        if (c->code >= 1 && c->code <= 5) c->code = chance(50) ? 0 : 6;
+    static const uint8_t codes[] = {1, 1, 1, 2, 2, 3, 3, 3, 4, 4, 5, 5, 6, 6, 7};
+    if (chance(3)) { /* a code outside 1 to 7: all else is right for some code, or is not */
+        uint32_t code = chance(40) ? 0 : chance(60) ? 8 : any_number();
+        if (chance(50)) noise(c);
+        else draw_of_code(v, codes[below(sizeof codes)], c);
+        c->code = code >= ADD_ROLE && code <= TAKE_RIGHTS ? 8 : code;
         return;
     }
     draw_of_code(v, codes[below(sizeof codes)], c);
     if (chance(65)) return;
-    switch (below(6)) {
+    switch (below(7)) {
     case 0: spoil_range(c); break;
     case 1: spoil_live(v, c); break;
     case 2: spoil_standing(v, c); break;
     case 3: spoil_width(c); break;
+    case 4: spoil_right(v, c); break;
     default: spoil_scope(v, c);
     }
     if (chance(20)) spoil_scope(v, c); /* two faults at once: the order counts */
+    if (chance(5) && c->actor < ROLES) spoil_right(v, c);
     if (chance(10)) spoil_range(c);
     if (chance(10)) spoil_live(v, c);
     if (chance(5)) spoil_width(c);
 }
 
+void draw_spoilt(const struct view *v, int number, struct command *c)
+{
+    if (number == 3) spoil_live(v, c);
+    else if (number > 3) spoil_standing(v, c);
+    else if (chance(50)) spoil_range(c);
+    else spoil_width(c);
+}
+
 static void draw_until(const struct view *v, int code, int number, bool part, struct command *c)
 {
-    static struct view after;
     struct command done;
     draw_of_code(v, code, &done);
     for (int k = 0; k < 30; k++) {
         draw_of_code(v, code, c);
         uint32_t standing = part ? v->board.kind[c->role][c->junior] : 0;
         if (part && (standing == 0 || standing == c->kind)) continue;
-        uint8_t given = decide(v, c, &after);
+        uint8_t given = decide_on_sound(v, c);
         if (given == number) return;
         if (given == 0) done = *c;
     }
@@ -711,14 +879,15 @@ static bool edge_to_offend(const struct view *v, enum named named, struct comman
 static enum named some_field(int code)
 {
     if (code == ADD_ROLE) return A_SENIORS + below(4);
+    if (code == GIVE_RIGHTS || code == TAKE_RIGHTS) return THE_TARGET;
     return code == REMOVE_ROLE ? THE_REMOVED : chance(50) ? THE_SENIOR : THE_JUNIOR;
 }
 
 /* The cause of the lowest role there that offends, or 0. */
 static int cause_at(const struct view *v, const struct command *c, enum named named, bool strict)
 {
-    const uint64_t roles[NAMED] = {one(c->role),  one(c->role),  one(c->junior), c->a_seniors,
-                                   c->i_seniors, c->a_juniors, c->i_juniors};
+    const uint64_t roles[NAMED] = {one(c->role), one(c->role), one(c->role), one(c->junior),
+                                   c->a_seniors, c->i_seniors, c->a_juniors, c->i_juniors};
     int cause = 0;
     for (int r = 0; r < ROLES && cause == 0; r++)
         if (in(roles[named], r)) cause = why(v, c->actor, r, strict).cause;
@@ -735,9 +904,12 @@ void draw_offence(const struct view *v, int code, struct command *c)
     for (int k = 0; k < 60; k++) {
         noise(c);
         c->code = code, c->actor = pick_live(&v->board);
-        if (code == ADD_ROLE) c->role = pick_dead(&v->board), any_from(v, named, c);
+        if (named == THE_TARGET) {
+            fair_rights(v, c);
+            c->role = pick_barred(v, c->actor);
+        } else if (code == ADD_ROLE) c->role = pick_dead(&v->board), any_from(v, named, c);
         else if (code == REMOVE_ROLE) c->role = cause == ITSELF ? c->actor : (uint32_t)pick_barred(v, c->actor);
         else if (!edge_to_offend(v, named, c)) continue;
-        if (cause_at(v, c, named, strict) == cause) return;
+        if (cause_at(v, c, named, strict) == cause && (k > 40 || !lacks_right(v, c))) return;
     }
 }

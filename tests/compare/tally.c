@@ -22,14 +22,14 @@ static void never(long count, const char *what, const char *of)
     wanting++;
 }
 
-/* Which refusals a command of each code can meet once its board is sound; 0 is any code outside 1 to 5. */
-static const char *const can_give[6] = {"2",           "0 2 3 4 6 7 8 9", "0 2 3 6 9", "0 2 3 4 6 7 9",
-                                        "0 2 3 5 6 9", "0 2 3 5 6 9"};
+/* Which refusals but 13 a command of each code can meet once its board is sound; 0 is any code outside 1 to 7. */
+static const char *const numbers[CODES] = {"2",           "0 2 3 4 6 7 8 9", "0 2 3 6 9", "0 2 3 4 6 7 9",
+                                           "0 2 3 5 6 9", "0 2 3 5 6 9",     "0 2 3 6",   "0 2 3 6"};
 
-static bool can(int code, int number)
+bool can_give(int code, int number)
 {
     char digit[2] = {'0' + number, 0};
-    return number < 10 && strstr(can_give[code], digit) != NULL;
+    return number == 13 ? code > 0 : number < 10 && strstr(numbers[code], digit) != NULL;
 }
 
 static void heading(const char *what, const char *const columns[], int count)
@@ -39,39 +39,40 @@ static void heading(const char *what, const char *const columns[], int count)
     printf("\n");
 }
 
-static const char *const code_name[6] = {"code outside 1 to 5", "1 add role", "2 remove role",
-                                         "3 add edge", "4 remove edge", "5 change edge"};
+static const char *const code_name[CODES] = {"code outside 1 to 7", "1 add role",    "2 remove role", "3 add edge",
+                                             "4 remove edge",       "5 change edge", "6 give rights", "7 take rights"};
 
 static void commands(void)
 {
-    static const char *const columns[] = {"0", "1", "2", "3", "4", "5", "6", "7", "8", "9"};
-    static const char *const more[] = {"0", "2", "3", "4", "5", "6", "7", "8", "9", "w12", "f7", "f9", "f10", "f11"};
-    static const int in_file[] = {7, 9, 10, 11};
+    static const char *const columns[] = {"0", "1", "2", "3", "4", "5", "13", "6", "7", "8", "9"};
+    static const char *const more[] = {"0",  "2", "3", "4",   "5",  "13", "6",  "7",
+                                       "8",  "9", "w12", "f7", "f9", "f10", "f11"};
+    static const int in_order[] = {0, 1, 2, 3, 4, 5, 13, 6, 7, 8, 9}, in_file[] = {7, 9, 10, 11};
     char what[60];
 
-    heading("board_apply", columns, 10);
-    for (int code = 0; code < 6; code++) {
+    heading("board_apply", columns, 11);
+    for (int code = 0; code < CODES; code++) {
         printf("%-36s", code_name[code]);
-        for (int n = 0; n < 10; n++) printf("%8ld", tally.apply[code][n]);
+        for (int k = 0; k < 11; k++) printf("%8ld", tally.apply[code][in_order[k]]);
         printf("\n");
     }
-    heading("board_command (w writing, f file)", more, 14);
-    for (int code = 0; code < 6; code++) {
+    heading("board_command (w writing, f file)", more, 15);
+    for (int code = 0; code < CODES; code++) {
         printf("%-36s", code_name[code]);
-        for (int n = 0; n < 10; n++)
-            if (n != 1) printf("%8ld", tally.command[code][ASKED][n]);
+        for (int k = 0; k < 11; k++)
+            if (in_order[k] != 1) printf("%8ld", tally.command[code][ASKED][in_order[k]]);
         printf("%8ld", tally.command[code][IN_WRITING][12]);
         for (int k = 0; k < 4; k++) printf("%8ld", tally.command[code][IN_FILE][in_file[k]]);
         printf("\n");
     }
-    for (int code = 0; code < 6; code++) {
-        for (int n = 0; n < 13; n++) {
+    for (int code = 0; code < CODES; code++) {
+        for (int n = 0; n < NUMBERS; n++) {
             sprintf(what, "code %d gives %d", code, n);
-            if (n == 1 || can(code, n)) need(tally.apply[code][n], "board_apply", what);
+            if (n == 1 || can_give(code, n)) need(tally.apply[code][n], "board_apply", what);
             else never(tally.apply[code][n], "board_apply", what);
-            if (can(code, n)) need(tally.command[code][ASKED][n], "board_command", what);
+            if (can_give(code, n)) need(tally.command[code][ASKED][n], "board_command", what);
             else never(tally.command[code][ASKED][n], "board_command", what);
-            if (n == 12 && can(code, 0)) need(tally.command[code][IN_WRITING][n], "board_command", what);
+            if (n == 12 && can_give(code, 0)) need(tally.command[code][IN_WRITING][n], "board_command", what);
             else never(tally.command[code][IN_WRITING][n], "board_command, writing", what);
         }
         for (int k = 0; k < 4 && code > 0; k++) {
@@ -112,12 +113,13 @@ static void parts(void)
 
 /* ---- why a role is out of scope */
 
-static const char *const named_name[NAMED] = {"role",      "senior",    "junior",   "A-seniors",
-                                              "I-seniors", "A-juniors", "I-juniors"};
+static const char *const named_name[NAMED] = {"role",      "target",    "senior",    "junior",
+                                              "A-seniors", "I-seniors", "A-juniors", "I-juniors"};
 
 static bool can_name(int code, int named)
 {
     if (code == ADD_ROLE) return named >= A_SENIORS;
+    if (code >= GIVE_RIGHTS) return named == THE_TARGET;
     return code == REMOVE_ROLE ? named == THE_REMOVED : named == THE_SENIOR || named == THE_JUNIOR;
 }
 
@@ -128,7 +130,7 @@ static void causes(void)
     static const char *const columns[] = {"1", "2", "3", "c 1", "c 2", "c 3"};
     char what[40], of[40];
     heading("cause of a 6 (c command)", columns, 6);
-    for (int row = 0; row < 5 * NAMED; row++) {
+    for (int row = 0; row < (CODES - 1) * NAMED; row++) {
         int code = 1 + row / NAMED, named = row % NAMED;
         if (!can_name(code, named)) continue;
         sprintf(what, "%s, %s", code_name[code], named_name[named]);
@@ -152,7 +154,7 @@ static void orders(void)
     heading("first to offend, and another too", columns, NAMED - THE_JUNIOR);
     for (int row = 0; row < 2 * NAMED; row++) {
         int call = row / NAMED, named = row % NAMED;
-        if (named == THE_REMOVED || named == THE_JUNIOR) continue; /* where nothing follows */
+        if (named == THE_REMOVED || named == THE_TARGET || named == THE_JUNIOR) continue; /* where nothing follows */
         sprintf(what, "%s, %s", call_name[call], named_name[named]);
         printf("%-36s", what);
         for (int k = THE_JUNIOR; k < NAMED; k++) printf("%8ld", tally.beside[call][named][k]);
@@ -197,17 +199,94 @@ static void roles_in_the_way(void)
 
 static void unnamed(void)
 {
-    static const char *const columns[] = {"1", "2", "3", "4", "5"};
+    static const char *const columns[] = {"1", "2", "3", "4", "5", "13"};
+    static const int number[] = {1, 2, 3, 4, 5, 13};
     char what[40];
-    heading("a role offends, another number", columns, 5);
+    heading("a role offends, another number", columns, 6);
     for (int call = APPLY; call <= COMMAND; call++) {
         printf("%-36s", call_name[call]);
-        for (int n = 1; n <= 5; n++) printf("%8ld", tally.unnamed[call][n]);
+        for (int k = 0; k < 6; k++) printf("%8ld", tally.unnamed[call][number[k]]);
         printf("\n");
-        for (int n = call == APPLY ? 1 : 2; n <= 5; n++) {
-            sprintf(what, "%d, though a role offends", n);
-            need(tally.unnamed[call][n], call_name[call], what);
+        for (int k = call == APPLY ? 0 : 1; k < 6; k++) {
+            sprintf(what, "%d, though a role offends", number[k]);
+            need(tally.unnamed[call][number[k]], call_name[call], what);
         }
+    }
+}
+
+/* ---- rights */
+
+/* Whose right it is that the actor may use, or may not; a role above, reached or aside has it where the actor has 13. */
+static void sources(void)
+{
+    static const char *const columns[] = {"own", "derived", "above", "reached", "aside", "nobody"};
+    char what[40], of[60];
+    heading("whose right, and then 13 or not", columns, SOURCES);
+    for (int row = 0; row < 2 * (CODES - 1); row++) {
+        int call = row / (CODES - 1), code = 1 + row % (CODES - 1);
+        sprintf(what, "%s, %s", call_name[call], code_name[code]);
+        printf("%-36s", what);
+        for (int k = 0; k < SOURCES; k++) printf("%8ld", tally.source[call][code][k]);
+        printf("\n");
+        for (int k = 0; k < SOURCES; k++) {
+            sprintf(of, "the right of %s", source_name[k]);
+            need(tally.source[call][code][k], what, of);
+        }
+    }
+}
+
+/* Where 13 stands among the numbers. */
+static void beside_13(void)
+{
+    static const char *const columns[] = {"2", "3", "4", "5", "none", "6", "7", "8", "9"};
+    static const int number[] = {2, 3, 4, 5, 0, 6, 7, 8, 9};
+    char what[40], of[40];
+    heading("13 holds too; 13, else this", columns, 9);
+    for (int row = 0; row < 2 * (CODES - 1); row++) {
+        int call = row / (CODES - 1), code = 1 + row % (CODES - 1);
+        sprintf(what, "%s, %s", call_name[call], code_name[code]);
+        printf("%-36s", what);
+        for (int k = 0; k < 9; k++) {
+            long count = (k < 4 ? tally.first : tally.later)[call][code][number[k]];
+            printf("%8ld", count);
+        }
+        printf("\n");
+        for (int k = 0; k < 9; k++) {
+            long count = (k < 4 ? tally.first : tally.later)[call][code][number[k]];
+            sprintf(of, k < 4 ? "%d, though 13 holds too" : "13, else %d", number[k]);
+            if (can_give(code, number[k])) need(count, what, of);
+            else never(count, what, of);
+        }
+    }
+}
+
+static void outcomes(void)
+{
+    static const char *const columns[] = {"byte 0", "nothing", "some", "all", "itself", "role 0", "last", "partly"};
+    static const char *const outcome[OUTCOMES] = {
+        "byte 0, done", "nothing changes", "some of the rights change", "all of them change", "the actor's own change",
+        "role 0's change", "the last right goes", "13, some may be used"};
+    static const char *const range[] = {"32", "to 255", "above"};
+    char what[40];
+    heading("6 and 7, done (partly: 13)", columns, OUTCOMES);
+    for (int row = 0; row < 4; row++) {
+        int call = row / 2, code = row % 2;
+        sprintf(what, "%s, %s", call_name[call], code_name[GIVE_RIGHTS + code]);
+        printf("%-36s", what);
+        for (int k = 0; k < OUTCOMES; k++) printf("%8ld", tally.outcome[call][code][k]);
+        printf("\n");
+        for (int k = 0; k < OUTCOMES; k++)
+            if (k == NONE_LEFT && code == 0) never(tally.outcome[call][code][k], what, outcome[k]);
+            else need(tally.outcome[call][code][k], what, outcome[k]);
+    }
+    heading("rights byte out of range, so 2", range, 3);
+    for (int row = 0; row < 4; row++) {
+        int call = row / 2, code = row % 2;
+        sprintf(what, "%s, %s", call_name[call], code_name[GIVE_RIGHTS + code]);
+        printf("%-36s", what);
+        for (int k = 0; k < 3; k++) printf("%8ld", tally.rights_range[call][code][k]);
+        printf("\n");
+        for (int k = 0; k < 3; k++) need(tally.rights_range[call][code][k], what, range[k]);
     }
 }
 
@@ -225,33 +304,52 @@ static void unsound_boards(void)
         printf("%-36s%8ld\n", wrong_way[way], tally.wrong[way]);
         need(tally.wrong[way], "wrong stored value", wrong_way[way]);
     }
+    printf("bad rights, all refused with 1\n");
+    for (int way = 0; way < RIGHTS_WAYS; way++) {
+        printf("%-36s%8ld\n", rights_way[way], tally.bad_rights[way]);
+        need(tally.bad_rights[way], "bad rights", rights_way[way]);
+    }
 }
 
 static void reading_and_writing(void)
 {
-    static const char *const columns[] = {"0", "7", "9", "10", "11", "1", "12"}, *const boards[] = {"sound", "not"};
+    static const char *const columns[] = {"0", "7", "9", "10", "11", "1", "12"};
+    static const char *const boards[] = {"HH", "HR", "not sound"}, *const mark[] = {"HH", "HR"};
+    static const char *const name[] = {"read, HH or no mark", "read, HR", "write"};
     static const int number[] = {0, 7, 9, 10, 11, 1, 12};
-    char what[20];
+    char what[40];
     heading("board_read, board_write", columns, 7);
-    for (int call = READ; call <= WRITE; call++) {
-        const long *count = call == READ ? tally.read : tally.write;
-        printf("%-36s", call_name[call]);
+    for (int row = 0; row < 3; row++) {
+        const long *count = row < 2 ? tally.read[row] : tally.write;
+        printf("%-36s", name[row]);
         for (int k = 0; k < 7; k++) printf("%8ld", count[number[k]]);
         printf("\n");
         for (int k = 0; k < 7; k++) {
             sprintf(what, "%d", number[k]);
-            if (k == 0 || (k < 5) == (call == READ)) need(count[number[k]], call_name[call], what);
-            else never(count[number[k]], call_name[call], what);
+            if (k == 0 || (k < 5) == (row < 2)) need(count[number[k]], name[row], what);
+            else never(count[number[k]], name[row], what);
         }
     }
     printf("%-36s%8ld\n", call_name[FOUND], tally.found);
     need(tally.found, call_name[FOUND], "0");
-    heading("written, of boards", boards, 2);
+    heading("written, of boards", boards, 3);
     for (int place = 0; place < PLACES; place++) {
-        printf("%-36s%8ld%8ld\n", places[place].name, tally.place[place][true], tally.place[place][false]);
-        need(tally.place[place][true], "a sound board written", places[place].name);
-        need(tally.place[place][false], "a board that isn't sound written", places[place].name);
+        const long *count = tally.place[place];
+        printf("%-36s%8ld%8ld%8ld\n", places[place].name, count[1], count[2], count[0]);
+        need(count[1], "a sound board written as HH", places[place].name);
+        need(count[2], "a sound board written as HR", places[place].name);
+        need(count[0], "a board that isn't sound written", places[place].name);
     }
+    heading("command done, file before and after", mark, 2);
+    for (int before = 0; before < 2; before++) {
+        printf("%-36s%8ld%8ld\n", mark[before], tally.marks[before][0], tally.marks[before][1]);
+        for (int k = 0; k < 2; k++) {
+            sprintf(what, "a file that is then %s", mark[k]);
+            need(tally.marks[before][k], mark[before], what);
+        }
+    }
+    printf("%-36s%8ld%8ld\n", "stretch with bytes", tally.stretch[0], tally.stretch[1]);
+    for (int k = 0; k < 2; k++) need(tally.stretch[k], "stretch with bytes", mark[k]);
 }
 
 static void questions(void)
@@ -277,18 +375,19 @@ static void questions(void)
 
 static void files(void)
 {
-    static const char *const columns[] = {"0", "7", "9", "10", "11"};
+    static const char *const columns[] = {"0", "7", "9", "10", "11", "r 0", "r 7", "r 9", "r 10", "r 11"};
     static const int number[] = {0, 7, 9, 10, 11};
-    heading("board file", columns, 5);
+    heading("board file (r: HR)", columns, 10);
     for (int d = 0; d < damage_count; d++) {
         printf("%-36s", damages[d].name);
-        for (int k = 0; k < 5; k++) printf("%8ld", tally.damage[d][number[k]]);
+        for (int k = 0; k < 10; k++) printf("%8ld", tally.damage[d][k / 5][number[k % 5]]);
         printf("\n");
     }
     for (int d = 0; d < damage_count; d++) {
-        long all = 0;
-        for (int k = 0; k < 5; k++) all += tally.damage[d][number[k]];
-        need(all, "board file", damages[d].name);
+        long all[2] = {0, 0};
+        for (int k = 0; k < 10; k++) all[k / 5] += tally.damage[d][k / 5][number[k % 5]];
+        if (damages[d].mark != ONLY_HR) need(all[0], "board file", damages[d].name);
+        if (damages[d].mark != ONLY_HH) need(all[1], "board file HR", damages[d].name);
     }
 }
 
@@ -300,9 +399,15 @@ static void sizes(void)
     } line[] = {
         {"boards of 64 roles", tally.full_roles},
         {"boards of 2,016 edges", tally.full_edges},
-        {"files of 6,118 bytes", tally.longest_file},
-        {"files of 6,119 bytes", tally.too_long_file},
-        {"files of 2,017 edges", tally.many_edges},
+        {"HH files of 6,118 bytes", tally.file_of[0][0]},
+        {"HH files of 6,119 bytes", tally.file_of[0][1]},
+        {"HH files of 6,184 bytes", tally.file_of[0][2]},
+        {"HH files of 6,185 bytes", tally.file_of[0][3]},
+        {"HR files of 6,118 bytes", tally.file_of[1][0]},
+        {"HR files of 6,119 bytes", tally.file_of[1][1]},
+        {"HR files of 6,184 bytes", tally.file_of[1][2]},
+        {"HR files of 6,185 bytes", tally.file_of[1][3]},
+        {"HH files of 2,017 edges", tally.many_edges},
         {"room for the file and no more", tally.room_exact},
         {"room short of one byte", tally.room_short},
         {"no room at all", tally.room_none},
@@ -311,6 +416,7 @@ static void sizes(void)
         {"out of scope, all seniors in it", tally.seniors_in_scope},
         {"9 for a part added to an edge", tally.part_added},
         {"9 for a part taken, edge stays", tally.part_taken},
+        {"role removed that had rights", tally.removed_with_rights},
     };
     printf("edges of size, and slips\n");
     for (size_t k = 0; k < sizeof line / sizeof line[0]; k++) {
@@ -327,16 +433,19 @@ static void sizes(void)
 /* Numbers above 255: cut to 8 bits they would be others. */
 static void wide_numbers(void)
 {
-    static const char *const field[FIELDS] = {"code", "actor", "role", "junior", "kind"};
+    static const char *const field[FIELDS] = {"code", "actor", "role", "junior", "kind", "rights"};
     static const char *const argument[] = {"first", "second"};
     char what[40];
     heading("above 255 in a command", field, FIELDS);
     for (int c = APPLY; c <= COMMAND; c++) {
         printf("%-8s%-28s", call_name[c], "used, so 2");
         for (int k = 0; k < FIELDS; k++) printf("%8ld", tally.wide_used[c][k]);
-        printf("\n%-8s%-28s", call_name[c], "not used, done");
-        for (int k = 0; k < FIELDS; k++) printf("%8ld", tally.wide_unused[c][k]);
         printf("\n");
+        for (int code = 1; code < CODES; code++) {
+            printf("%-8snot used, done, %-12s", call_name[c], code_name[code]);
+            for (int k = 0; k < FIELDS; k++) printf("%8ld", tally.wide_unused[c][code][k]);
+            printf("\n");
+        }
     }
     heading("above 255 in a question, so 2", argument, 2);
     for (int c = DERIVES; c <= STRETCH; c++)
@@ -345,9 +454,12 @@ static void wide_numbers(void)
         for (int k = 0; k < FIELDS; k++) {
             sprintf(what, "%s above 255, so 2", field[k]);
             need(tally.wide_used[c][k], call_name[c], what);
-            sprintf(what, "%s above 255, done", field[k]);
-            if (k == JUNIOR || k == KIND) need(tally.wide_unused[c][k], call_name[c], what);
-            else never(tally.wide_unused[c][k], call_name[c], what);
+            for (unsigned code = 1; code < CODES; code++) {
+                const struct command of_code = {.code = code};
+                sprintf(what, "%s above 255, code %u done", field[k], code);
+                if (!uses_field(&of_code, k)) need(tally.wide_unused[c][code][k], call_name[c], what);
+                else never(tally.wide_unused[c][code][k], call_name[c], what);
+            }
         }
     for (int c = DERIVES; c <= STRETCH; c++)
         for (int k = 0; k < (c <= SCOPE ? 2 : 1); k++) {
@@ -367,6 +479,9 @@ int print_tally(long least)
     orders();
     roles_in_the_way();
     unnamed();
+    sources();
+    beside_13();
+    outcomes();
     unsound_boards();
     reading_and_writing();
     questions();

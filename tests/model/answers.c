@@ -71,11 +71,12 @@ uint64_t answer_stretch(const struct opened *o, uint32_t role)
 {
     uint64_t reply;
     if (refused(o, role, role, 0, &reply)) return reply;
-    size_t edges = distance(o->file + o->len - TRAILER);
+    struct parts p;
+    bad_frame(o->file, o->len, &p); /* which it isn't */
     uint64_t start = 0, len = 0;
-    for (size_t at = o->len - TRAILER - edges; at < o->len - TRAILER; at += 3) {
-        if (o->file[at] != role) continue;
-        if (len == 0) start = at;
+    for (const uint8_t *e = p.edge; e < p.edge + 3 * p.edges; e += 3) {
+        if (e[0] != role) continue;
+        if (len == 0) start = e - o->file;
         len += 3;
     }
     return answer(0, ASKED, start + (len << 16));

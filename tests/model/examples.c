@@ -1,5 +1,5 @@
-/* The scope document's examples, and some of an edge's parts and of roles that offend, on any implementation of
- * board.h. */
+/* The scope document's examples, and some of an edge's parts, of roles that offend and of rights, on any implementation
+ * of board.h. */
 #include "model.h"
 #include <stdio.h>
 #include <string.h>
@@ -28,10 +28,11 @@ static void put(const struct board *b)
     expect("the file is read", use->read(file, len, &asked), 0);
 }
 
-/* A board from lines such as "0 I 1, 1 A 3"; every role named is live. The reader adds the stored values. */
+/* A board from lines such as "0 I 1, 1 A 3"; every role named is live, and role 0 alone has rights. The reader adds the
+ * stored values. */
 static struct board board_of(const char *edges)
 {
-    struct board b = {.live = 1};
+    struct board b = {.live = 1, .rights = {ALL_RIGHTS}};
     int senior, junior, taken;
     char kind[3];
     while (sscanf(edges, " %d %2s %d%n", &senior, kind, &junior, &taken) == 3) {
@@ -43,6 +44,12 @@ static struct board board_of(const char *edges)
     }
     put(&b);
     return asked;
+}
+
+static struct board with_rights(struct board b, int role, int rights)
+{
+    b.rights[role] = rights;
+    return b;
 }
 
 /* Questions below are asked of this board. */
@@ -150,6 +157,15 @@ static struct command edge(int code, int actor, int senior, int junior, int kind
     return (struct command){.code = code, .actor = actor, .role = senior, .junior = junior, .kind = kind};
 }
 
+static struct command give_rights(int actor, int role, int rights)
+{
+    return (struct command){.code = 6, .actor = actor, .role = role, .rights = rights};
+}
+static struct command take_rights(int actor, int role, int rights)
+{
+    return (struct command){.code = 7, .actor = actor, .role = role, .rights = rights};
+}
+
 static void becomes(const char *what, const struct board *b, const char *edges)
 {
     struct board want = board_of(edges);
@@ -197,7 +213,9 @@ static struct command by_2(int role, uint64_t as, uint64_t is, uint64_t aj, uint
 /* The role that offends first, and why. */
 static void offending(struct board p, struct board w)
 {
-    struct board b = board_of("0 I 1, 1 A 3, 3 I 4, 0 I 4");
+    struct board b = with_rights(board_of("0 I 1, 1 A 3, 3 I 4, 0 I 4"), 3, ALL_RIGHTS);
+    p = with_rights(p, 2, ALL_RIGHTS); /* or these actors would have 13 before 6 */
+    w = with_rights(w, 4, ALL_RIGHTS);
 
     gives("W, 4 changes 4 to 5", w, edge(5, 4, 4, 5, 1), six(5, 2, 3));
     about(&w);
@@ -208,7 +226,7 @@ static void offending(struct board p, struct board w)
     about(&b);
     no_scope(3, 4, 1, 2, 0);
     no_scope(0, 4, 2, 2, 3);
-    b = board_of("0 I 1, 1 A 2, 1 A 3, 1 A 4, 2 I 5, 3 I 5, 4 I 5");
+    b = with_rights(board_of("0 I 1, 1 A 2, 1 A 3, 1 A 4, 2 I 5, 3 I 5, 4 I 5"), 5, ALL_RIGHTS);
     gives("3 removes 5, and 2 and 4 are in the way", b, remove_role(3, 5), six(5, 2, 2));
     gives("2 removes 5, and 3 and 4 are in the way", b, remove_role(2, 5), six(5, 2, 3));
     gives("P, 1 removes 1", p, remove_role(1, 1), six(1, 3, 0));
@@ -229,6 +247,110 @@ static void offending(struct board p, struct board w)
     gives("P, there is no edge", p, edge(4, 2, 0, 3, 1), 5);
 }
 
+/* On P, 0 derives 0, 1 and 2; 1 derives 1, 2 and 3; its scope is the same. 0 and 1 have all the rights. */
+static void rights(struct board p, struct board w)
+{
+    struct board b;
+    struct command add = add_role(2, 4);
+    add.i_seniors = 1 << 2;
+
+    /* held by the actor, by a role that it derives, by nobody that it derives */
+    gives("P, 2 adds 4 below itself", p, add, 13);
+    gives("P, 2 adds 4, having the right", with_rights(p, 2, BOARD_RIGHT(1)), add, 0);
+    b = with_rights(with_rights(p, 1, 0), 2, BOARD_RIGHT(5));
+    gives("P, 1 changes 1 to 3 by the right of 2", b, edge(5, 1, 1, 3, 1), 0);
+    gives("P, 1 removes 1 to 3 by the right of 2", b, edge(4, 1, 1, 3, 2), 13);
+    b = with_rights(with_rights(p, 1, 0), 3, BOARD_RIGHT(2));
+    gives("P, 1 removes 2 by the right of 3", b, remove_role(1, 2), 0);
+    gives("P, 0 has none, 3's is not its own", with_rights(b, 0, 0), remove_role(0, 2), 13);
+
+    /* lost again */
+    b = gives("P, 0 takes the right from 1", p, take_rights(0, 1, BOARD_RIGHT(5)), 0);
+    expect("what is left to 1", b.rights[1], ALL_RIGHTS - BOARD_RIGHT(5));
+    gives("P, 1 changes 1 to 3 no more", b, edge(5, 1, 1, 3, 1), 13);
+    b = gives("P, 0 gives it back", b, give_rights(0, 1, BOARD_RIGHT(5)), 0);
+    expect("P again", memcmp(&b, &p, sizeof b) != 0, false);
+
+    /* 13 comes after 5 and before 6 and the rest */
+    gives("P, 2 removes 0, 13 before 6", p, remove_role(2, 0), 13);
+    gives("P, 3 adds an edge 0 to 1 that stands", p, edge(3, 3, 0, 1, 1), 4);
+    gives("P, 3 removes 2 to 1, which isn't there", p, edge(4, 3, 2, 1, 1), 5);
+    gives("P, 3 gives 0 what it may not use", p, give_rights(3, 0, 1), 13);
+    gives("P, 2 adds an edge to itself", p, edge(3, 2, 2, 2, 1), 13);
+    gives("P, 2 adds 4 with no seniors", p, add_role(2, 4), 13);
+
+    /* every right named, and no right of their own */
+    b = with_rights(with_rights(p, 1, BOARD_RIGHT(1)), 0, 0);
+    gives("P, 1 gives 2 its right", b, give_rights(1, 2, BOARD_RIGHT(1)), 0);
+    gives("P, 1 gives 2 its right and another", b, give_rights(1, 2, BOARD_RIGHT(1) | BOARD_RIGHT(4)), 13);
+    gives("P, 1 takes from 2 one it may not use", b, take_rights(1, 2, BOARD_RIGHT(4)), 13);
+    gives("P, 2 gives itself nothing", b, give_rights(2, 2, 0), 0);
+    b = gives("P, 1 loses the last right", b, take_rights(1, 1, BOARD_RIGHT(1)), 0);
+    gives("P without rights, nothing taken", b, take_rights(0, 0, 0), 0);
+    gives("P without rights, none to give", b, give_rights(0, 0, 1), 13);
+
+    /* the target: in scope, not in strict scope */
+    b = gives("P, 0 takes its own right", p, take_rights(0, 0, ALL_RIGHTS), 0);
+    expect("the founding role's", b.rights[0], 0);
+    b = gives("P, 0 takes it back by the right of 1", b, give_rights(0, 0, ALL_RIGHTS), 0);
+    expect("P again", memcmp(&b, &p, sizeof b) != 0, false);
+    gives("P, 0 gives 3 rights", p, give_rights(0, 3, 1), six(3, 1, 0));
+    gives("P, 1 takes rights from 0", p, take_rights(1, 0, 1), six(0, 1, 0));
+    gives("W, 3 gives 5 rights", with_rights(w, 3, 1), give_rights(3, 5, 1), six(5, 2, 4));
+
+    /* held already, or not held: done, and nothing changes */
+    b = gives("P, 0 gives 1 what it has", p, give_rights(0, 1, ALL_RIGHTS), 0);
+    expect("P still", memcmp(&b, &p, sizeof b) != 0, false);
+    b = gives("P, 0 takes from 2 what it hasn't", p, take_rights(0, 2, ALL_RIGHTS), 0);
+    expect("P still", memcmp(&b, &p, sizeof b) != 0, false);
+
+    /* a removed role's rights go, and a new one has none */
+    b = gives("P, 0 gives 2 all", p, give_rights(0, 2, ALL_RIGHTS), 0);
+    b = gives("P, 1 removes 2 and its rights", b, remove_role(1, 2), 0);
+    add = add_role(1, 2);
+    add.i_seniors = 1 << 1;
+    b = gives("P, 2 is added without them", b, add, 0);
+    expect("P again", memcmp(&b, &p, sizeof b) != 0, false);
+
+    gives("32 is no rights byte", p, give_rights(0, 1, 32), 2);
+    gives("256 is none", p, take_rights(0, 1, 256), 2);
+    gives("code 8", p, (struct command){.code = 8, .role = 1}, 2);
+    gives("a target that isn't live", p, give_rights(0, 4, 1), 3);
+    gives("what 6 doesn't use", p, (struct command){6, 0, 1, 64, 4, 1, ~0ull, ~0ull, ~0ull, ~0ull}, 0);
+}
+
+/* P's file, by its bytes. */
+static void file_with_rights(struct board p)
+{
+    static const uint8_t listed[] = {0, 1, 2, 3, 0, 1, 1, 1, 2, 1, 1, 3, 2, 31, 31, 0, 0, 4, 0, 13, 0, 17, 0, 'H', 'R'};
+    struct board was = p;
+    uint8_t out[BOARD_FILE];
+    expect("P written", use->write(&p, out, sizeof out, 0), sizeof listed << 16);
+    expect("its bytes", memcmp(out, listed, sizeof listed) != 0, false);
+    memcpy(file, listed, len = sizeof listed);
+    expect("P read", use->read(file, len, &asked), 0);
+    expect("its board", memcmp(&asked, &p, sizeof p) != 0, false);
+    expect("stretch of 1 in it", use->stretch(file, len, 1), 7ull << 16 | 6ull << 32);
+    file[14] = 0;
+    expect("HH has just these rights", use->read(file, len, &asked), 11 | 1 << 8);
+    file[14] = 32;
+    expect("a rights byte of 32", use->read(file, len, &asked), 11 | 1 << 8);
+    file[14] = 31, file[19] = 9;
+    expect("an edge distance as HH has it", use->read(file, len, &asked), 10 | 1 << 8);
+    p.rights[4] = 1;
+    expect("a right at 4, which isn't live", use->write(&p, out, sizeof out, 0), 1);
+    p = was, p.rights[2] = 32;
+    expect("32 at 2", use->write(&p, out, sizeof out, 0), 1);
+
+    /* role 0 alone, without a right: no edge, so no edge distance */
+    static const uint8_t bare[] = {0, 0, 1, 0, 0, 0, 2, 0, 'H', 'R'};
+    struct board founding;
+    use->found(&founding);
+    founding.rights[0] = 0;
+    expect("role 0 without rights", use->write(&founding, out, sizeof out, 0), sizeof bare << 16);
+    expect("its bytes", memcmp(out, bare, sizeof bare) != 0, false);
+}
+
 int wrong_examples(const char *whose, const struct calls *of)
 {
     struct board p, w, l, founding, b;
@@ -237,9 +359,9 @@ int wrong_examples(const char *whose, const struct calls *of)
     use = of;
     user = whose;
     wrong = 0;
-    p = board_of("0 I 1, 1 I 2, 1 A 3");
-    w = board_of("0 I 1, 0 I 2, 0 I 3, 1 A 3, 1 A 4, 3 A 5, 4 A 5");
-    l = board_of("0 I 1, 1 I 2, 2 A 3, 0 A 3");
+    p = with_rights(board_of("0 I 1, 1 I 2, 1 A 3"), 1, ALL_RIGHTS);
+    w = with_rights(board_of("0 I 1, 0 I 2, 0 I 3, 1 A 3, 1 A 4, 3 A 5, 4 A 5"), 1, ALL_RIGHTS);
+    l = with_rights(board_of("0 I 1, 1 I 2, 2 A 3, 0 A 3"), 1, ALL_RIGHTS);
     expect("the founding board", use->found(&founding), 0);
     sound_board("P is sound", &p);
     sound_board("W is sound", &w);
@@ -298,6 +420,8 @@ int wrong_examples(const char *whose, const struct calls *of)
 
     part_by_part();
     offending(p, w);
+    rights(p, w);
+    file_with_rights(p);
 
     c = add_role(0, 63);
     c.i_seniors = 1;

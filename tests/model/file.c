@@ -1,28 +1,56 @@
-/* The board file: role bytes, edge records, and a trailer that points back. */
+/* The board file: role bytes, edge records, in HR a rights byte for each role, and a trailer that points back. */
 #include "model.h"
 #include <string.h>
 
 size_t distance(const uint8_t *at) { return at[0] + 256u * at[1]; }
 
-struct parts {
-    const uint8_t *role, *edge;
-    size_t roles, edges;
-};
-
-static bool bad_frame(const uint8_t *file, size_t len, struct parts *p)
+bool ends_with(const uint8_t *file, size_t len, const char *mark)
 {
-    if (len < TRAILER || len > FILE_MOST) return true;
-    const uint8_t *trailer = file + len - TRAILER;
+    return len >= 2 && file[len - 2] == mark[0] && file[len - 1] == mark[1];
+}
+
+static bool bad_hh(const uint8_t *file, size_t len, struct parts *p)
+{
+    if (len < HH_TRAILER || len > HH_MOST) return true;
+    const uint8_t *trailer = file + len - HH_TRAILER;
     size_t edge_distance = distance(trailer), role_distance = distance(trailer + 2);
-    if (trailer[4] != 'H' || trailer[5] != 'H') return true;
-    if (role_distance != len - TRAILER) return true;
+    if (role_distance != len - HH_TRAILER) return true;
     if (edge_distance > role_distance) return true;
     if (edge_distance % 3 != 0) return true;
     p->role = file;
     p->roles = role_distance - edge_distance;
     p->edge = trailer - edge_distance;
     p->edges = edge_distance / 3;
+    p->right = NULL;
     return p->roles < 1 || p->roles > ROLES;
+}
+
+/* The number of roles is the rights distance; between role bytes and rights bytes lie the edge records. */
+static bool bad_hr(const uint8_t *file, size_t len, struct parts *p)
+{
+    if (len < HR_TRAILER || len > HR_MOST) return true;
+    const uint8_t *trailer = file + len - HR_TRAILER;
+    size_t n = distance(trailer), edge_distance = distance(trailer + 2), role_distance = distance(trailer + 4);
+    if (role_distance != len - HR_TRAILER) return true;
+    if (n < 1 || n > ROLES) return true;
+    if (n + n > role_distance) return true;
+    size_t between = role_distance - n - n;
+    if (between % 3 != 0) return true;
+    if (between == 0 && edge_distance != 0) return true;
+    if (between != 0 && edge_distance != n + between) return true;
+    p->role = file;
+    p->roles = n;
+    p->edge = file + n;
+    p->edges = between / 3;
+    p->right = trailer - n;
+    return false;
+}
+
+bool bad_frame(const uint8_t *file, size_t len, struct parts *p)
+{
+    if (ends_with(file, len, "HH")) return bad_hh(file, len, p);
+    if (ends_with(file, len, "HR")) return bad_hr(file, len, p);
+    return true;
 }
 
 static bool listed(const struct parts *p, uint8_t role)
@@ -30,8 +58,24 @@ static bool listed(const struct parts *p, uint8_t role)
     return memchr(p->role, role, p->roles) != NULL;
 }
 
+/* What an HH file means: such a board has no HR file. */
+static bool rights_of_hh(const struct parts *p)
+{
+    for (size_t k = 0; k < p->roles; k++)
+        if (p->right[k] != (k == 0 ? ALL_RIGHTS : 0)) return false;
+    return true;
+}
+
+static bool bad_right(const struct parts *p)
+{
+    for (size_t k = 0; k < p->roles; k++)
+        if (p->right[k] > ALL_RIGHTS) return true;
+    return rights_of_hh(p);
+}
+
 static bool bad_record(const struct parts *p)
 {
+    if (p->right != NULL && bad_right(p)) return true;
     if (p->role[0] != 0) return true;
     for (size_t k = 0; k < p->roles; k++) {
         if (p->role[k] >= ROLES) return true;
@@ -58,6 +102,8 @@ uint8_t read_file(const uint8_t *file, size_t len, struct view *v)
     else if (bad_record(&p)) number = 11;
     else {
         for (size_t k = 0; k < p.roles; k++) v->board.live[p.role[k]] = true;
+        if (p.right == NULL) v->board.rights[0] = ALL_RIGHTS;
+        for (size_t k = 0; k < p.roles && p.right != NULL; k++) v->board.rights[p.role[k]] = p.right[k];
         for (size_t k = 0; k < p.edges; k++) v->board.kind[p.edge[3 * k]][p.edge[3 * k + 1]] = p.edge[3 * k + 2];
         look(v);
         if (loops(v)) number = 7;
@@ -71,9 +117,25 @@ uint8_t read_file(const uint8_t *file, size_t len, struct view *v)
     return number;
 }
 
+bool founders_alone(const struct model *m)
+{
+    if (m->rights[0] != ALL_RIGHTS) return false;
+    for (int x = 1; x < ROLES; x++)
+        if (m->rights[x] != 0) return false;
+    return true;
+}
+
+static size_t put_distance(uint8_t *file, size_t len, size_t distance)
+{
+    file[len] = distance % 256;
+    file[len + 1] = distance / 256;
+    return len + 2;
+}
+
 size_t put_file(const struct model *m, uint8_t *file)
 {
-    size_t len = 0, roles;
+    size_t len = 0, roles, edges;
+    bool hh = founders_alone(m);
     for (int x = 0; x < ROLES; x++)
         if (m->live[x]) file[len++] = x;
     roles = len;
@@ -84,13 +146,15 @@ size_t put_file(const struct model *m, uint8_t *file)
             file[len++] = y;
             file[len++] = m->kind[x][y];
         }
-    size_t edge_distance = len - roles, role_distance = len;
-    file[len++] = edge_distance % 256;
-    file[len++] = edge_distance / 256;
-    file[len++] = role_distance % 256;
-    file[len++] = role_distance / 256;
+    edges = len - roles;
+    for (int x = 0; x < ROLES && !hh; x++)
+        if (m->live[x]) file[len++] = m->rights[x];
+    size_t role_distance = len, edge_distance = edges == 0 ? 0 : len - roles;
+    if (!hh) len = put_distance(file, len, roles);
+    len = put_distance(file, len, edge_distance);
+    len = put_distance(file, len, role_distance);
     file[len++] = 'H';
-    file[len++] = 'H';
+    file[len++] = hh ? 'H' : 'R';
     return len;
 }
 

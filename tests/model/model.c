@@ -1,4 +1,4 @@
-/* Roles, edges, paths, scopes and the five commands, by their definitions. */
+/* Roles, edges, paths, scopes, rights and the seven commands, by their definitions. */
 #include "model.h"
 #include <string.h>
 
@@ -25,6 +25,7 @@ void from_board(const struct board *b, struct view *v)
         v->stored.derives[x] = b->derives[x];
         v->stored.derivers[x] = b->derivers[x];
         v->stored.manager[x] = b->manager[x];
+        m->rights[x] = b->rights[x];
     }
     look(v);
 }
@@ -37,6 +38,7 @@ void to_board(const struct view *v, struct board *b)
         b->derives[x] = v->stored.derives[x];
         b->derivers[x] = v->stored.derivers[x];
         b->manager[x] = v->stored.manager[x];
+        b->rights[x] = m->rights[x];
         b->live |= (uint64_t)m->live[x] << x;
         for (int y = 0; y < ROLES; y++) {
             uint8_t kind = m->kind[x][y];
@@ -51,6 +53,7 @@ void found(struct model *m)
 {
     memset(m, 0, sizeof *m);
     m->live[0] = true;
+    m->rights[0] = ALL_RIGHTS;
 }
 
 /* ---- paths */
@@ -244,7 +247,27 @@ bool right_values(const struct view *v)
     return true;
 }
 
-bool sound(const struct view *v) { return sound_tables(v) && right_values(v); }
+/* ---- rights */
+
+bool holds(const struct model *m, int x, int right) { return in(m->rights[x], right - 1); }
+
+bool may_use(const struct view *v, int a, int right)
+{
+    for (int x = 0; x < ROLES; x++)
+        if (v->derives[a][x] && holds(&v->board, x, right)) return true;
+    return false;
+}
+
+bool sound_rights(const struct model *m)
+{
+    for (int x = 0; x < ROLES; x++) {
+        if (m->rights[x] > ALL_RIGHTS) return false;
+        if (m->rights[x] != 0 && !m->live[x]) return false;
+    }
+    return true;
+}
+
+bool sound(const struct view *v) { return sound_tables(v) && right_values(v) && sound_rights(&v->board); }
 
 /* ---- commands */
 
@@ -255,7 +278,8 @@ struct change {
     bool made;
 };
 
-static bool edge_command(const struct command *c) { return c->code >= ADD_EDGE && c->code <= CHANGE_EDGE; }
+bool on_edge(const struct command *c) { return c->code >= ADD_EDGE && c->code <= CHANGE_EDGE; }
+bool on_rights(const struct command *c) { return c->code == GIVE_RIGHTS || c->code == TAKE_RIGHTS; }
 static bool is_senior(const struct command *c, int x) { return in(c->a_seniors, x) || in(c->i_seniors, x); }
 static bool is_junior(const struct command *c, int x) { return in(c->a_juniors, x) || in(c->i_juniors, x); }
 static uint8_t kind_in(uint64_t i, uint64_t a, int x) { return kind_of(in(i, x), in(a, x)); }
@@ -266,6 +290,7 @@ static void effect(struct model *m, const struct command *c)
     switch (c->code) {
     case ADD_ROLE:
         m->live[r] = true;
+        m->rights[r] = 0; /* a new role has none */
         for (int x = 0; x < ROLES; x++) {
             if (is_senior(c, x)) m->kind[x][r] = kind_in(c->i_seniors, c->a_seniors, x);
             if (is_junior(c, x)) m->kind[r][x] = kind_in(c->i_juniors, c->a_juniors, x);
@@ -273,6 +298,7 @@ static void effect(struct model *m, const struct command *c)
         break;
     case REMOVE_ROLE:
         m->live[r] = false;
+        m->rights[r] = 0; /* they go with it */
         for (int x = 0; x < ROLES; x++) {
             m->kind[r][x] = 0;
             m->kind[x][r] = 0;
@@ -281,6 +307,8 @@ static void effect(struct model *m, const struct command *c)
     case ADD_EDGE: m->kind[r][c->junior] = united(m->kind[r][c->junior], c->kind); break;
     case REMOVE_EDGE: m->kind[r][c->junior] = less(m->kind[r][c->junior], c->kind); break;
     case CHANGE_EDGE: m->kind[r][c->junior] = c->kind; break;
+    case GIVE_RIGHTS: m->rights[r] |= c->rights; break;
+    case TAKE_RIGHTS: m->rights[r] &= ~c->rights; break;
     }
 }
 
@@ -301,10 +329,11 @@ static bool unsound(struct change *g) { return !sound(g->before); }
 static bool malformed(struct change *g)
 {
     const struct command *c = g->c;
-    if (c->code < ADD_ROLE || c->code > CHANGE_EDGE) return true;
+    if (c->code < ADD_ROLE || c->code > TAKE_RIGHTS) return true;
     if (c->actor >= ROLES || c->role >= ROLES) return true;
-    if (edge_command(c) && c->junior >= ROLES) return true;
-    return edge_command(c) && (c->kind < 1 || c->kind > 3);
+    if (on_rights(c) && c->rights > ALL_RIGHTS) return true;
+    if (on_edge(c) && c->junior >= ROLES) return true;
+    return on_edge(c) && (c->kind < 1 || c->kind > 3);
 }
 
 static bool missing(struct change *g)
@@ -313,7 +342,7 @@ static bool missing(struct change *g)
     const bool *live = g->before->board.live;
     if (!live[c->actor]) return true;
     if (c->code != ADD_ROLE && !live[c->role]) return true;
-    if (edge_command(c) && !live[c->junior]) return true;
+    if (on_edge(c) && !live[c->junior]) return true;
     for (int x = 0; x < ROLES && c->code == ADD_ROLE; x++)
         if ((is_senior(c, x) || is_junior(c, x)) && !live[x]) return true;
     return false;
@@ -334,12 +363,29 @@ static bool not_there(struct change *g)
     return g->c->code == CHANGE_EDGE && kind_there(g) == 0;
 }
 
+/* Commands 1 to 5 ask for the right of their number, 6 and 7 for each that they name. */
+bool asks_for(const struct command *c, int right)
+{
+    if (on_rights(c)) return in(c->rights, right - 1);
+    return (int)c->code == right;
+}
+
+bool lacks_right(const struct view *v, const struct command *c)
+{
+    for (int right = 1; right <= RIGHTS; right++)
+        if (asks_for(c, right) && !may_use(v, c->actor, right)) return true;
+    return false;
+}
+
+static bool no_right(struct change *g) { return lacks_right(g->before, g->c); }
+
 static bool out_of_scope(struct change *g)
 {
     const struct view *v = g->before;
     const struct command *c = g->c;
-    if (edge_command(c)) return !(in_scope(v, c->actor, c->role) && in_scope(v, c->actor, c->junior));
+    if (on_edge(c)) return !(in_scope(v, c->actor, c->role) && in_scope(v, c->actor, c->junior));
     if (c->code == REMOVE_ROLE) return !administers(v, c->actor, c->role);
+    if (on_rights(c)) return !in_scope(v, c->actor, c->role);
     for (int x = 0; x < ROLES; x++) {
         if (is_senior(c, x) && !in_scope(v, c->actor, x)) return true;
         if (is_junior(c, x) && !administers(v, c->actor, x)) return true;
@@ -363,17 +409,31 @@ static const struct {
     {3, missing},
     {4, standing},
     {5, not_there},
+    {13, no_right},
     {6, out_of_scope},
     {7, would_loop},
     {8, new_outside},
     {9, would_unmanage},
 };
 
-uint8_t decide(const struct view *before, const struct command *c, struct view *after_board)
+static uint8_t first_refusal(size_t from, const struct view *before, const struct command *c, struct view *after_board)
 {
     struct change g = {before, c, after_board, false};
-    for (size_t k = 0; k < sizeof refusals / sizeof refusals[0]; k++)
+    for (size_t k = from; k < sizeof refusals / sizeof refusals[0]; k++)
         if (refusals[k].holds(&g)) return refusals[k].number;
+    return 0;
+}
+
+uint8_t decide(const struct view *before, const struct command *c, struct view *after_board)
+{
+    uint8_t number = first_refusal(0, before, c, after_board);
+    if (number != 0) return number;
     keep(after_board);
     return 0;
+}
+
+uint8_t decide_on_sound(const struct view *before, const struct command *c)
+{
+    static struct view after_board;
+    return first_refusal(1, before, c, &after_board);
 }

@@ -8,14 +8,15 @@
 #include "calls.h"
 #include <stdbool.h>
 
-enum { ROLES = 64, EDGES = 2016, FILE_MOST = 6118, TRAILER = 6, NONE = 64 };
-enum { ADD_ROLE = 1, REMOVE_ROLE, ADD_EDGE, REMOVE_EDGE, CHANGE_EDGE };
+enum { ROLES = 64, EDGES = 2016, NONE = 64, RIGHTS = 5, ALL_RIGHTS = 31 };
+enum { ADD_ROLE = 1, REMOVE_ROLE, ADD_EDGE, REMOVE_EDGE, CHANGE_EDGE, GIVE_RIGHTS, TAKE_RIGHTS };
 enum { ASKED, IN_FILE, IN_WRITING };
 
-/* kind[senior][junior] is 0 where no edge stands, else 1 = I, 2 = A, 3 = IA. */
+/* kind[senior][junior] is 0 where no edge stands, else 1 = I, 2 = A, 3 = IA. The right of command 1 is the lowest bit. */
 struct model {
     bool live[ROLES];
     uint8_t kind[ROLES][ROLES];
+    uint8_t rights[ROLES];
 };
 
 /* The values that a board record keeps beside its tables, right or not. */
@@ -48,9 +49,17 @@ bool loops(const struct view *v);
 bool unmanaged(const struct view *v);
 bool sound_tables(const struct view *v);
 bool right_values(const struct view *v);
-bool sound(const struct view *v); /* both */
+bool sound_rights(const struct model *m);
+bool sound(const struct view *v); /* all three */
+bool on_edge(const struct command *c);   /* 3 to 5 */
+bool on_rights(const struct command *c); /* 6 and 7 */
+bool holds(const struct model *m, int x, int right); /* x itself; rights are 1 to 5 */
+bool may_use(const struct view *v, int a, int right);
+bool asks_for(const struct command *c, int right);
+bool lacks_right(const struct view *v, const struct command *c); /* the actor, one that the command asks for */
 /* The refusal number; `after` is the board afterwards where it is 0, and means nothing where it is not. */
 uint8_t decide(const struct view *before, const struct command *c, struct view *after);
+uint8_t decide_on_sound(const struct view *before, const struct command *c); /* the number alone: the drawings ask often */
 
 /* why.c: why a role is out of scope, and which role of a command is the first to offend */
 enum { NOT_DERIVED = 1, IN_THE_WAY, ITSELF };
@@ -59,7 +68,7 @@ struct why {
 };
 bool bars(const struct view *v, int x, int a, int r); /* x keeps r out of the scope of a */
 struct why why(const struct view *v, int a, int r, bool strict); /* r is out of the scope, or strict scope, of a */
-enum named { THE_REMOVED, THE_SENIOR, THE_JUNIOR, A_SENIORS, I_SENIORS, A_JUNIORS, I_JUNIORS, NAMED };
+enum named { THE_REMOVED, THE_TARGET, THE_SENIOR, THE_JUNIOR, A_SENIORS, I_SENIORS, A_JUNIORS, I_JUNIORS, NAMED };
 struct offence {
     enum named named; /* where the command names the role */
     int role;
@@ -68,11 +77,19 @@ struct offence {
 struct offence first_offence(const struct view *v, const struct command *c);
 
 /* file.c */
+enum { HH_TRAILER = 6, HR_TRAILER = 8, HH_MOST = 6118, HR_MOST = 6184 };
+struct parts {
+    const uint8_t *role, *edge, *right; /* no rights in an HH file */
+    size_t roles, edges;
+};
 size_t distance(const uint8_t *at); /* 16 bits, low byte first */
+bool ends_with(const uint8_t *file, size_t len, const char *mark);
+bool bad_frame(const uint8_t *file, size_t len, struct parts *p); /* and finds its parts where it isn't */
+bool founders_alone(const struct model *m); /* role 0 has all the rights, and nobody else any: such a board's file is HH */
 uint8_t read_file(const uint8_t *file, size_t len, struct view *v);
 uint8_t write_file(const struct view *v, uint8_t *buffer, size_t room, size_t at, size_t *len);
 size_t put_file(const struct model *m, uint8_t *file); /* sound or not; FILE_MAX bytes are enough */
-enum { FILE_MAX = ROLES + 3 * ROLES * ROLES + TRAILER };
+enum { FILE_MAX = 2 * ROLES + 3 * ROLES * ROLES + HR_TRAILER };
 
 /* answers.c: what board.h promises, of a file that was read once; and model_apply and the rest, as in calls.h */
 struct opened {

@@ -34,7 +34,7 @@ struct why why(const struct view *v, int a, int r, bool strict)
 /* ---- the roles of a command that must be in scope */
 
 static bool removed(const struct command *c, uint32_t r) { return c->code == REMOVE_ROLE && c->role == r; }
-static bool on_edge(const struct command *c) { return c->code >= ADD_EDGE && c->code <= CHANGE_EDGE; }
+static bool target(const struct command *c, uint32_t r) { return on_rights(c) && c->role == r; }
 static bool senior(const struct command *c, uint32_t r) { return on_edge(c) && c->role == r; }
 static bool junior(const struct command *c, uint32_t r) { return on_edge(c) && c->junior == r; }
 static bool a_senior(const struct command *c, uint32_t r) { return c->code == ADD_ROLE && in(c->a_seniors, r); }
@@ -49,6 +49,7 @@ static const struct {
     bool strict;
 } fields[] = {
     {THE_REMOVED, removed, true},
+    {THE_TARGET, target, false},
     {THE_SENIOR, senior, false},
     {THE_JUNIOR, junior, false},
     {A_SENIORS, a_senior, false},

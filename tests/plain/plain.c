@@ -7,7 +7,7 @@
 #include <stdbool.h>
 #include <string.h>
 
-enum { ADD_ROLE = 1, REMOVE_ROLE, ADD_EDGE, REMOVE_EDGE, CHANGE_EDGE };
+enum { ADD_ROLE = 1, REMOVE_ROLE, ADD_EDGE, REMOVE_EDGE, CHANGE_EDGE, GIVE_RIGHTS, TAKE_RIGHTS };
 enum { ASKED, IN_FILE, IN_WRITING };
 
 typedef uint64_t set;
@@ -115,11 +115,19 @@ static bool manage(set live, const set down[64], const set up[64], uint8_t manag
     return true;
 }
 
+/* No byte above 31, and none but 0 where the role isn't live. */
+static bool rights_in_place(const struct board *b)
+{
+    uint8_t wrong = 0;
+    for (unsigned x = 0; x < 64; x++) wrong |= b->rights[x] & (has(b->live, x) ? ~BOARD_RIGHTS_ALL : ~0);
+    return wrong == 0;
+}
+
 static bool sound(const struct board *b)
 {
     set down[64], up[64];
     uint8_t manager[64];
-    return joins_live(b) && derive(b, down, up) && memcmp(down, b->derives, sizeof down) == 0 &&
+    return joins_live(b) && rights_in_place(b) && derive(b, down, up) && memcmp(down, b->derives, sizeof down) == 0 &&
            memcmp(up, b->derivers, sizeof up) == 0 && manage(b->live, down, up, manager) &&
            memcmp(manager, b->manager, sizeof manager) == 0;
 }
@@ -150,8 +158,18 @@ static bool allowed(const struct board *b, const struct command *c)
         EACH(x, c->a_juniors | c->i_juniors) if (!in_strict_scope(b, c->actor, x)) return false;
         return true;
     case REMOVE_ROLE: return in_strict_scope(b, c->actor, c->role);
+    case GIVE_RIGHTS:
+    case TAKE_RIGHTS: return in_scope(b, c->actor, c->role);
     default: return in_scope(b, c->actor, c->role) && in_scope(b, c->actor, c->junior);
     }
+}
+
+/* Has a all these rights, its own or those of roles that it derives. */
+static bool may_use(const struct board *b, unsigned a, unsigned rights)
+{
+    unsigned lacking = rights & ~b->rights[a];
+    for (set left = b->derives[a]; lacking != 0 && left != 0; left &= left - 1) lacking &= ~b->rights[lowest(left)];
+    return lacking == 0;
 }
 
 /* Why r is out of a's scope, where it stands in an answer; 0 for a role in scope. */
@@ -185,6 +203,8 @@ static uint64_t first_offending(const struct board *b, const struct command *c)
         if (found == 0) found = offending(b, a, c->i_juniors, true);
         return found;
     case REMOVE_ROLE: return offending(b, a, only(c->role), true);
+    case GIVE_RIGHTS:
+    case TAKE_RIGHTS: return offending(b, a, only(c->role), false);
     default:
         found = offending(b, a, only(c->role), false);
         return found != 0 ? found : offending(b, a, only(c->junior), false);
@@ -194,10 +214,11 @@ static uint64_t first_offending(const struct board *b, const struct command *c)
 /* What refuses a command on a sound board before it is changed, or 0. */
 static uint64_t before(const struct board *b, const struct command *c)
 {
-    bool on_edge = c->code >= ADD_EDGE;
+    bool on_rights = c->code >= GIVE_RIGHTS, on_edge = c->code >= ADD_EDGE && !on_rights;
     set named = only(c->actor & 63);
 
-    if (c->code < ADD_ROLE || c->code > CHANGE_EDGE || c->actor > 63 || c->role > 63) return 2;
+    if (c->code < ADD_ROLE || c->code > TAKE_RIGHTS || c->actor > 63 || c->role > 63) return 2;
+    if (on_rights && c->rights > BOARD_RIGHTS_ALL) return 2;
     if (on_edge && (c->junior > 63 || c->kind < 1 || c->kind > 3)) return 2;
 
     if (c->code == ADD_ROLE) named |= c->a_seniors | c->i_seniors | c->a_juniors | c->i_juniors;
@@ -212,6 +233,7 @@ static uint64_t before(const struct board *b, const struct command *c)
         if (c->code == REMOVE_EDGE && missing != 0) return 5;
         if (c->code == CHANGE_EDGE && stands == 0) return 5;
     }
+    if (!may_use(b, c->actor, on_rights ? c->rights : BOARD_RIGHT(c->code))) return 13;
     return allowed(b, c) ? 0 : 6 | first_offending(b, c);
 }
 
@@ -225,7 +247,7 @@ static void change(struct board *b, const struct command *c)
 {
     unsigned r = c->role;
     switch (c->code) {
-    case ADD_ROLE:
+    case ADD_ROLE: /* which has no rights, as no dead role has */
         b->live |= only(r);
         b->i[r] = c->i_juniors;
         b->a[r] = c->a_juniors;
@@ -234,7 +256,7 @@ static void change(struct board *b, const struct command *c)
         break;
     case REMOVE_ROLE:
         b->live &= ~only(r);
-        b->i[r] = b->a[r] = 0;
+        b->i[r] = b->a[r] = b->rights[r] = 0;
         EACH(x, b->live) {
             b->i[x] &= ~only(r);
             b->a[x] &= ~only(r);
@@ -244,6 +266,15 @@ static void change(struct board *b, const struct command *c)
     case REMOVE_EDGE: put_kind(b, r, c->junior, kind_of(b, r, c->junior) & ~c->kind); break;
     default: put_kind(b, r, c->junior, c->kind);
     }
+}
+
+/* Commands 6 and 7 leave the tables and all that follows from them. */
+static bool change_rights(struct board *b, const struct command *c)
+{
+    if (c->code < GIVE_RIGHTS) return false;
+    if (c->code == GIVE_RIGHTS) b->rights[c->role] |= c->rights;
+    else b->rights[c->role] &= ~c->rights;
+    return true;
 }
 
 /* The change, and then the values of the board it leaves. That board must be dropped where the number isn't 0. */
@@ -261,7 +292,9 @@ uint64_t plain_apply(struct board *b, const struct command *c)
     if (!sound(b)) return 1;
     uint64_t refusal = before(b, c);
     if (refusal != 0) return refusal;
+    if (change_rights(b, c)) return 0;
     memcpy(&next, b, offsetof(struct board, derives)); /* the tables alone: the rest is worked out */
+    memcpy(next.rights, b->rights, sizeof next.rights);
     uint8_t number = after(&next, c);
     if (number == 0) *b = next;
     return number;
@@ -269,16 +302,39 @@ uint64_t plain_apply(struct board *b, const struct command *c)
 
 /* ---- the board file */
 
-enum { TRAILER = 6, FILE_MOST = 6118 };
+enum { HH_TRAILER = 6, HR_TRAILER = 8, HH_MOST = 6118, HR_MOST = BOARD_FILE };
+
+static inline size_t distance(const uint8_t *t) { return t[0] | t[1] << 8; }
+
+/* How many roles a file has and where its edge records end; 0 roles for a bad frame. HR has the rights bytes behind them. */
+static size_t frame(const uint8_t *file, size_t len, const uint8_t **end)
+{
+    if (len < HH_TRAILER || file[len - 2] != 'H') return 0;
+    if (file[len - 1] == 'H') {
+        const uint8_t *t = *end = file + len - HH_TRAILER;
+        size_t edges = distance(t), all = distance(t + 2), roles = all - edges;
+        return len > HH_MOST || all != len - HH_TRAILER || edges > all || edges % 3 != 0 || roles > 64 ? 0 : roles;
+    }
+    if (file[len - 1] != 'R' || len < HR_TRAILER || len > HR_MOST) return 0;
+    const uint8_t *t = file + len - HR_TRAILER;
+    size_t roles = distance(t), from_edges = distance(t + 2), all = distance(t + 4);
+    if (all != len - HR_TRAILER || roles < 1 || roles > 64 || 2 * roles > all) return 0;
+    size_t edges = all - 2 * roles;
+    if (edges % 3 != 0 || from_edges != (edges == 0 ? 0 : edges + roles)) return 0;
+    *end = t - roles;
+    return roles;
+}
+
+/* The rights that HH means, which HR must not hold. */
+static const uint8_t founders_alone[64] = {BOARD_RIGHTS_ALL};
+
+static inline bool is_hh(const struct board *b) { return memcmp(b->rights, founders_alone, 64) == 0; }
 
 static uint8_t read_file(const uint8_t *file, size_t len, struct board *b)
 {
-    if (len < TRAILER || len > FILE_MOST) return 10;
-    const uint8_t *t = file + len - TRAILER;
-    size_t edges = t[0] | t[1] << 8, all = t[2] | t[3] << 8;
-    if (t[4] != 'H' || t[5] != 'H' || all != len - TRAILER || edges > all || edges % 3 != 0) return 10;
-    size_t roles = all - edges;
-    if (roles < 1 || roles > 64) return 10;
+    const uint8_t *t;
+    size_t roles = frame(file, len, &t);
+    if (roles == 0) return 10;
 
     memset(b, 0, offsetof(struct board, derives));
     if (file[0] != 0) return 11;
@@ -295,29 +351,46 @@ static uint8_t read_file(const uint8_t *file, size_t len, struct board *b)
         b->i[e[0]] |= (set)(e[2] & 1) << e[1];
         b->a[e[0]] |= (set)(e[2] >> 1) << e[1];
     }
+    if (file[len - 1] == 'H') memcpy(b->rights, founders_alone, 64);
+    else {
+        memset(b->rights, 0, 64);
+        EACH(x, b->live) if ((b->rights[x] = *t++) > BOARD_RIGHTS_ALL) return 11;
+        if (is_hh(b)) return 11;
+    }
     if (!derive(b, b->derives, b->derivers)) return 7;
     return manage(b->live, b->derives, b->derivers, b->manager) ? 0 : 9;
+}
+
+static inline uint8_t *put_distance(uint8_t *out, size_t n)
+{
+    out[0] = n & 255;
+    out[1] = n >> 8;
+    return out + 2;
 }
 
 /* The length, or 0 and nothing written where there is no room. */
 static size_t write_file(const struct board *b, uint8_t *out, size_t room)
 {
+    bool hh = is_hh(b);
     size_t roles = size(b->live), edges = 0;
     EACH(x, b->live) edges += 3 * size(b->i[x] | b->a[x]);
-    if (room < roles + edges + TRAILER) return 0;
+    size_t rights = hh ? 0 : roles, all = roles + edges + rights, len = all + (hh ? HH_TRAILER : HR_TRAILER);
+    if (room < len) return 0;
     EACH(x, b->live) *out++ = x;
     EACH(x, b->live) EACH(y, b->i[x] | b->a[x]) {
         *out++ = x;
         *out++ = y;
         *out++ = has(b->i[x], y) | has(b->a[x], y) << 1;
     }
-    *out++ = edges & 255;
-    *out++ = edges >> 8;
-    *out++ = (roles + edges) & 255;
-    *out++ = (roles + edges) >> 8;
-    *out++ = 'H';
-    *out++ = 'H';
-    return roles + edges + TRAILER;
+    if (!hh) {
+        EACH(x, b->live) *out++ = b->rights[x];
+        out = put_distance(out, rights);
+    }
+    out = put_distance(out, edges == 0 ? 0 : edges + rights);
+    out = put_distance(out, all);
+    out[0] = 'H';
+    out[1] = hh ? 'H' : 'R';
+    return len;
 }
 
 /* ---- answers */
@@ -389,7 +462,7 @@ uint64_t plain_command(const uint8_t *file, size_t len, const struct command *c,
     uint8_t number = read_file(file, len, &b);
     if (number != 0) return answer(number, IN_FILE, 0);
     uint64_t refusal = before(&b, c);
-    if (refusal == 0) refusal = after(&b, c);
+    if (refusal == 0 && !change_rights(&b, c)) refusal = after(&b, c);
     if (refusal != 0) return refusal;
     size_t written = write_file(&b, out, room);
     return written != 0 ? answer(0, ASKED, written) : answer(12, IN_WRITING, 0);
@@ -400,6 +473,7 @@ uint64_t plain_found(struct board *b)
     memset(b, 0, offsetof(struct board, manager));
     b->live = b->derives[0] = b->derivers[0] = 1;
     memset(b->manager, BOARD_NO_MANAGER, sizeof b->manager);
+    memcpy(b->rights, founders_alone, sizeof b->rights);
     return 0;
 }
 

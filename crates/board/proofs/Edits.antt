@@ -15,7 +15,7 @@ use Rattle.sets.proofs.Bools.{true-or-false, and-left, and-right, false-no, lt-
 use Rattle.sets.proofs.Digits.{bit-zero}
 use Rattle.sets.proofs.Laws.{same-is, same-out, same-eq, same-self, setOf-fits, bit-setOf, is-setOf, bit-lt}
 use Rattle.sets.proofs.Members.{Taken, taken-part}
-use Rattle.hierarchy.specs.Tables.{Tables, tables, row, IsTable, hasI, hasA}
+use Rattle.hierarchy.specs.Tables.{Tables, tables, row, IsTable, Shaped, hasI, hasA}
 use Rattle.board.specs.Effects.{lives, listOf, pair, entry, tableAfter, after}
 use Rattle.hierarchy.proofs.Rows.{row-set as by-row}
 use Rattle.board.specs.Rows.{RowSet, Entered, Left}
@@ -122,12 +122,12 @@ leaving-end g inv = record { whole = inv .whole; entries = λ z y l. inv .done z
 
 -- ---- a table known by its entries
 
-listOf-length : (n : ℕ) (f : ℕ → ℕ) → length (listOf n f) ≡ n
+pub listOf-length : (n : ℕ) (f : ℕ → ℕ) → length (listOf n f) ≡ n
 unfolding listOf
 listOf-length zero f = refl
 listOf-length (suc n) f = ap suc (listOf-length n (λ k. f (suc k)))
 
-listOf-row : (n : ℕ) (f : ℕ → ℕ) (x : ℕ) → x < n → row (listOf n f) x ≡ f x
+pub listOf-row : (n : ℕ) (f : ℕ → ℕ) (x : ℕ) → x < n → row (listOf n f) x ≡ f x
 unfolding listOf
 listOf-row zero f x l = absurd (not-suc-le-zero l)
 listOf-row (suc n) f zero l = refl
@@ -196,7 +196,11 @@ module _ (c : Command) (s j : ℕ) (p o : Bool) (x y : ℕ) where
   unfolding entry
   entry-else e1 e2 e3 e4 e5 = rw (ne-eqb (c .code) 1 e1, ne-eqb (c .code) 2 e2, ne-eqb (c .code) 3 e3, ne-eqb (c .code) 4 e4, ne-eqb (c .code) 5 e5)
 
-  -- an edge command leaves every other pair
+  -- commands past the fifth leave every entry,
+  pub entry-past : 5 < c .code → entry c s j p o x y ≡ o
+  entry-past h = entry-else (λ e. omega (arith, h, e)) (λ e. omega (arith, h, e)) (λ e. omega (arith, h, e)) (λ e. omega (arith, h, e)) (λ e. omega (arith, h, e))
+
+  -- and an edge command every other pair
   pub entry-other : c .code ≢ 1 → c .code ≢ 2 → pair c x y ≡ false → entry c s j p o x y ≡ o
   unfolding entry
   entry-other e1 e2 d = rw (ne-eqb (c .code) 1 e1, ne-eqb (c .code) 2 e2, d) (same (eqb (c .code) 3) (eqb (c .code) 4) (eqb (c .code) 5))
@@ -298,7 +302,7 @@ module _ (c : Command) (s r : ℕ) (fits : r < 2 ^ 64) where
   unfolding lives
   living e1 e2 h = is-setOf r _ fits (λ x l. h x ∙ rw (ne-eqb (c .code) 1 e1, ne-eqb (c .code) 2 e2))
 
--- an edge command leaves them
+-- commands past the second leave them
 pub live-stays : (t : Tables) (c : Command) → t .live < 2 ^ 64 → 3 ≤ c .code → t .live ≡ after t c .live
 unfolding after
 live-stays t c fits l = living c (t .live) (t .live) fits (λ k. absurd (omega arith)) (λ k. absurd (omega arith)) (λ x. refl)
@@ -309,3 +313,14 @@ pub tables-are : (b : Tables) (c : Command) (live : ℕ) (i a : List ℕ) (p q :
     → tables live i a ≡ after b c
 unfolding after
 tables-are b c live i a p q hl hp hi hq ha = rw (hl, hi, ha, hp, hq)
+
+-- commands past the fifth leave the very tables
+pub tables-stay : (t : Tables) (c : Command) → Shaped t → 5 < c .code → after t c ≡ t
+unfolding after
+tables-stay t c shaped h =
+    sym (tables-are t c (t .live) (t .i) (t .a) (hasI (c .kind)) (hasA (c .kind)) (live-stays t c (shaped .live-fits) (omega (arith, h)))
+    refl (stays _ _ _ (t .i) record { rows = shaped .i-rows; fits = shaped .i-fits })
+    refl (stays _ _ _ (t .a) record { rows = shaped .a-rows; fits = shaped .a-fits }))
+  where
+    stays : (s j : ℕ) (p : Bool) (r : List ℕ) → IsTable r → r ≡ tableAfter c s j p r
+    stays s j p r whole = table-is c s j p r r whole (λ x y l m. sym (entry-past c s j p (bit (row r x) y) x y h))

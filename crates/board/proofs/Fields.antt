@@ -1,4 +1,4 @@
--- A board in memory is its six fields in memory, side by side (`fields-out`, `fields-in`). They are lent where they lie, to be changed
+-- A board in memory is its seven fields in memory, side by side (`fields-out`, `fields-in`). They are lent where they lie, to be changed
 -- (`lends-fields`, `takes-fields`) or to be read (`views-fields`, `hides-fields`), and come back. For the proofs by hand of functions that
 -- take a board by reference. Assumes `Given`.
 use mathlib.Core.Path.{_≡_, refl, ap, subst}
@@ -44,15 +44,18 @@ Bytes = Array u8 64
 abbrev words : Member
 words = record { row = Words; ty = tyArray (tyInt w64) 64 }
 
+abbrev bytes : Member
+bytes = record { row = Bytes; ty = tyArray (tyInt w8) 64 }
+
 abbrev members : List Member
-members = record { row = u64; ty = tyInt w64 } ∷ words ∷ words ∷ words ∷ words ∷ record { row = Bytes; ty = tyArray (tyInt w8) 64 } ∷ []
+members = record { row = u64; ty = tyInt w64 } ∷ words ∷ words ∷ words ∷ words ∷ bytes ∷ bytes ∷ []
 
 rows-are : rowsOf members ≡ fields B.the-type
 rows-are = refl
 
 -- the fields of a board as they lie in memory
 abbrev pub fieldsAt : Share → Board → ℕ → ℕ → Fml
-fieldsAt q d b o = partsAt q members 0 (d .live, (d .i, (d .a, (d .derives, (d .derivers, (d .manager, tt)))))) b o
+fieldsAt q d b o = partsAt q members 0 (d .live, (d .i, (d .a, (d .derives, (d .derivers, (d .manager, (d .rights, tt))))))) b o
 
 -- a struct's row has an array field's elements one by one
 each-is : (xs : List ℕ) → map (λ (x : ℕ). x) xs ≡ xs
@@ -61,7 +64,7 @@ each-is (x ∷ xs) = ap (λ (ys : List ℕ). x ∷ ys) (each-is xs)
 
 fields-are : (q : Share) (d : Board) (b o : ℕ) → partsAt q members 0 (B.the-type .to d) b o ≡ fieldsAt q d b o
 fields-are q d b o =
-    λ j. partsAt q members 0 (d .live, (each-is (d .i) j, (each-is (d .a) j, (each-is (d .derives) j, (each-is (d .derivers) j, (each-is (d .manager) j, tt)))))) b o
+    λ j. partsAt q members 0 (d .live, (each-is (d .i) j, (each-is (d .a) j, (each-is (d .derives) j, (each-is (d .derivers) j, (each-is (d .manager) j, (each-is (d .rights) j, tt))))))) b o
 
 module _ {M : Type 1} (𝓤 : URA M) (H : Heap 𝓤) (A : Atoms 𝓤) where
   -- the way back: the fields of any board are that board
@@ -107,7 +110,7 @@ module _ (R : RattleType) (k : Loan) where
   abbrev lentAt : ℕ → ℕ → Fml
   lentAt b o = flent (k .0 ∷ []) (Body (mem R) b o (k .1))
 
--- the six of a board, and beside the references and the last values what else a callee is passed and says
+-- the seven of a board, and beside the references and the last values what else a callee is passed and says
 pub record Loans : Type 0 where
   pub live : Loan
   pub i : Loan
@@ -115,60 +118,62 @@ pub record Loans : Type 0 where
   pub derives : Loan
   pub derivers : Loan
   pub manager : Loan
+  pub rights : Loan
 
 module _ (k : Loans) where
   abbrev pub tokensOf : Fml
   tokensOf =
-      fsep (tokenOf (k .live)) (fsep (tokenOf (k .i)) (fsep (tokenOf (k .a)) (fsep (tokenOf (k .derives)) (fsep (tokenOf (k .derivers)) (fsep (tokenOf (k .manager)) ftrue)))))
+      fsep (tokenOf (k .live)) (fsep (tokenOf (k .i)) (fsep (tokenOf (k .a)) (fsep (tokenOf (k .derives)) (fsep (tokenOf (k .derivers)) (fsep (tokenOf (k .manager))
+      (fsep (tokenOf (k .rights)) ftrue))))))
 
   abbrev pub refsAt : Board → ℕ → ℕ → Fml → Fml
   refsAt d b o T =
       fsep (refAt u64 (k .live) (d .live) b (o + 0)) (fsep (refAt Words (k .i) (d .i) b (o + 8)) (fsep (refAt Words (k .a) (d .a) b (o + 520))
       (fsep (refAt Words (k .derives) (d .derives) b (o + 1032)) (fsep (refAt Words (k .derivers) (d .derivers) b (o + 1544))
-      (fsep (refAt Bytes (k .manager) (d .manager) b (o + 2056)) T)))))
+      (fsep (refAt Bytes (k .manager) (d .manager) b (o + 2056)) (fsep (refAt Bytes (k .rights) (d .rights) b (o + 2120)) T))))))
 
   abbrev pub lastsOf : Board → Fml → Fml
   lastsOf d T =
       fsep (lastOf u64 (k .live) (d .live)) (fsep (lastOf Words (k .i) (d .i)) (fsep (lastOf Words (k .a) (d .a)) (fsep (lastOf Words (k .derives) (d .derives))
-      (fsep (lastOf Words (k .derivers) (d .derivers)) (fsep (lastOf Bytes (k .manager) (d .manager)) T)))))
+      (fsep (lastOf Words (k .derivers) (d .derivers)) (fsep (lastOf Bytes (k .manager) (d .manager)) (fsep (lastOf Bytes (k .rights) (d .rights)) T))))))
 
   abbrev pub lentsAt : ℕ → ℕ → Fml
   lentsAt b o =
       fsep (lentAt u64 (k .live) b (o + 0)) (fsep (lentAt Words (k .i) b (o + 8)) (fsep (lentAt Words (k .a) b (o + 520)) (fsep (lentAt Words (k .derives) b (o + 1032))
-      (fsep (lentAt Words (k .derivers) b (o + 1544)) (fsep (lentAt Bytes (k .manager) b (o + 2056)) ftrue)))))
+      (fsep (lentAt Words (k .derivers) b (o + 1544)) (fsep (lentAt Bytes (k .manager) b (o + 2056)) (fsep (lentAt Bytes (k .rights) b (o + 2120)) ftrue))))))
 
   -- the same as the arguments of a callee's triple, before its other arguments
-  abbrev pub lifetimesOf : {X : Type 0} → X → Lft × (Lft × (Lft × (Lft × (Lft × (Lft × X)))))
-  lifetimesOf t = (k .live .0 ∷ [], (k .i .0 ∷ [], (k .a .0 ∷ [], (k .derives .0 ∷ [], (k .derivers .0 ∷ [], (k .manager .0 ∷ [], t))))))
+  abbrev pub lifetimesOf : {X : Type 0} → X → Lft × (Lft × (Lft × (Lft × (Lft × (Lft × (Lft × X))))))
+  lifetimesOf t = (k .live .0 ∷ [], (k .i .0 ∷ [], (k .a .0 ∷ [], (k .derives .0 ∷ [], (k .derivers .0 ∷ [], (k .manager .0 ∷ [], (k .rights .0 ∷ [], t)))))))
 
-  abbrev pub refsOf : {X : Type 0} → Board → ℕ → ℕ → X → RefT ℕ × (RefT (List ℕ) × (RefT (List ℕ) × (RefT (List ℕ) × (RefT (List ℕ) × (RefT (List ℕ) × X)))))
-  refsOf d b o t = (record { ptr = (b, o + 0); name = k .live .1; now = d .live }, (record { ptr = (b, o + 8); name = k .i .1; now = d .i }, (record { ptr = (b, o + 520); name = k .a .1; now = d .a }, (record { ptr = (b, o + 1032); name = k .derives .1; now = d .derives }, (record { ptr = (b, o + 1544); name = k .derivers .1; now = d .derivers }, (record { ptr = (b, o + 2056); name = k .manager .1; now = d .manager }, t))))))
+  abbrev pub refsOf : {X : Type 0} → Board → ℕ → ℕ → X → RefT ℕ × (RefT (List ℕ) × (RefT (List ℕ) × (RefT (List ℕ) × (RefT (List ℕ) × (RefT (List ℕ) × (RefT (List ℕ) × X))))))
+  refsOf d b o t = (record { ptr = (b, o + 0); name = k .live .1; now = d .live }, (record { ptr = (b, o + 8); name = k .i .1; now = d .i }, (record { ptr = (b, o + 520); name = k .a .1; now = d .a }, (record { ptr = (b, o + 1032); name = k .derives .1; now = d .derives }, (record { ptr = (b, o + 1544); name = k .derivers .1; now = d .derivers }, (record { ptr = (b, o + 2056); name = k .manager .1; now = d .manager }, (record { ptr = (b, o + 2120); name = k .rights .1; now = d .rights }, t)))))))
 
-abbrev pub sharesOf : {X : Type 0} → X → Share × (Share × (Share × (Share × (Share × (Share × X)))))
-sharesOf t = (fullShare, (fullShare, (fullShare, (fullShare, (fullShare, (fullShare, t))))))
+abbrev pub sharesOf : {X : Type 0} → X → Share × (Share × (Share × (Share × (Share × (Share × (Share × X))))))
+sharesOf t = (fullShare, (fullShare, (fullShare, (fullShare, (fullShare, (fullShare, (fullShare, t)))))))
 
-abbrev pub pointersOf : {X : Type 0} → ℕ → ℕ → X → List Val × (List Val × (List Val × (List Val × (List Val × (List Val × X)))))
-pointersOf b o t = (vptr b (o + 0) ∷ [], (vptr b (o + 8) ∷ [], (vptr b (o + 520) ∷ [], (vptr b (o + 1032) ∷ [], (vptr b (o + 1544) ∷ [], (vptr b (o + 2056) ∷ [], t))))))
+abbrev pub pointersOf : {X : Type 0} → ℕ → ℕ → X → List Val × (List Val × (List Val × (List Val × (List Val × (List Val × (List Val × X))))))
+pointersOf b o t = (vptr b (o + 0) ∷ [], (vptr b (o + 8) ∷ [], (vptr b (o + 520) ∷ [], (vptr b (o + 1032) ∷ [], (vptr b (o + 1544) ∷ [], (vptr b (o + 2056) ∷ [], (vptr b (o + 2120) ∷ [], t)))))))
 
 -- the last values that a callee leaves, and the board that they are
 abbrev pub Lasts : Type 0 → Type 0
-Lasts X = ℕ × (List ℕ × (List ℕ × (List ℕ × (List ℕ × (List ℕ × X)))))
+Lasts X = ℕ × (List ℕ × (List ℕ × (List ℕ × (List ℕ × (List ℕ × (List ℕ × X))))))
 
 abbrev pub boardOfLasts : {X : Type 0} → Lasts X → Board
-boardOfLasts z = boardOf (z .0) (z .1 .0) (z .1 .1 .0) (z .1 .1 .1 .0) (z .1 .1 .1 .1 .0) (z .1 .1 .1 .1 .1 .0)
+boardOfLasts z = boardOf (z .0) (z .1 .0) (z .1 .1 .0) (z .1 .1 .1 .0) (z .1 .1 .1 .1 .0) (z .1 .1 .1 .1 .1 .0) (z .1 .1 .1 .1 .1 .1 .0)
 
 module _ {M : Type 1} {𝓤 : URA M} {H : Heap 𝓤} {A : Atoms 𝓤} {K : Type 0} {W : Given 𝓤 H A} {Γ : List (Item 𝓤)} {G : Goal 𝓤 H} where
-  fsplit7 : K → {P Q R S T U X : Fml}
-      → Step K W (‵ P ∷ ‵ Q ∷ ‵ R ∷ ‵ S ∷ ‵ T ∷ ‵ U ∷ ‵ X ∷ Γ) G (‵ (fsep P (fsep Q (fsep R (fsep S (fsep T (fsep U X)))))) ∷ Γ) G
-  fsplit7 t {P} {Q} {R} {S} {T} {U} {X} =
-      cut (‵ (fsep P (fsep Q (fsep R (fsep S (fsep T (fsep U X)))))) ∷ []) (‵ P ∷ ‵ Q ∷ ‵ R ∷ ‵ S ∷ ‵ T ∷ ‵ U ∷ ‵ X ∷ []) Γ
-      (id⊢ 𝓤 (sem 𝓤 H A (fsep P (fsep Q (fsep R (fsep S (fsep T (fsep U X))))))))
+  fsplit8 : K → {P Q R S T U X Y : Fml}
+      → Step K W (‵ P ∷ ‵ Q ∷ ‵ R ∷ ‵ S ∷ ‵ T ∷ ‵ U ∷ ‵ X ∷ ‵ Y ∷ Γ) G (‵ (fsep P (fsep Q (fsep R (fsep S (fsep T (fsep U (fsep X Y))))))) ∷ Γ) G
+  fsplit8 t {P} {Q} {R} {S} {T} {U} {X} {Y} =
+      cut (‵ (fsep P (fsep Q (fsep R (fsep S (fsep T (fsep U (fsep X Y))))))) ∷ []) (‵ P ∷ ‵ Q ∷ ‵ R ∷ ‵ S ∷ ‵ T ∷ ‵ U ∷ ‵ X ∷ ‵ Y ∷ []) Γ
+      (id⊢ 𝓤 (sem 𝓤 H A (fsep P (fsep Q (fsep R (fsep S (fsep T (fsep U (fsep X Y)))))))))
 
-  fjoin7 : K → {P Q R S T U X : Fml}
-      → Step K W (‵ (fsep P (fsep Q (fsep R (fsep S (fsep T (fsep U X)))))) ∷ Γ) G (‵ P ∷ ‵ Q ∷ ‵ R ∷ ‵ S ∷ ‵ T ∷ ‵ U ∷ ‵ X ∷ Γ) G
-  fjoin7 t {P} {Q} {R} {S} {T} {U} {X} =
-      cut (‵ P ∷ ‵ Q ∷ ‵ R ∷ ‵ S ∷ ‵ T ∷ ‵ U ∷ ‵ X ∷ []) (‵ (fsep P (fsep Q (fsep R (fsep S (fsep T (fsep U X)))))) ∷ []) Γ
-      (id⊢ 𝓤 (sem 𝓤 H A (fsep P (fsep Q (fsep R (fsep S (fsep T (fsep U X))))))))
+  fjoin8 : K → {P Q R S T U X Y : Fml}
+      → Step K W (‵ (fsep P (fsep Q (fsep R (fsep S (fsep T (fsep U (fsep X Y))))))) ∷ Γ) G (‵ P ∷ ‵ Q ∷ ‵ R ∷ ‵ S ∷ ‵ T ∷ ‵ U ∷ ‵ X ∷ ‵ Y ∷ Γ) G
+  fjoin8 t {P} {Q} {R} {S} {T} {U} {X} {Y} =
+      cut (‵ P ∷ ‵ Q ∷ ‵ R ∷ ‵ S ∷ ‵ T ∷ ‵ U ∷ ‵ X ∷ ‵ Y ∷ []) (‵ (fsep P (fsep Q (fsep R (fsep S (fsep T (fsep U (fsep X Y))))))) ∷ []) Γ
+      (id⊢ 𝓤 (sem 𝓤 H A (fsep P (fsep Q (fsep R (fsep S (fsep T (fsep U (fsep X Y)))))))))
 
   -- one value is lent for a lifetime made for the loan, and comes back once that is ended
   lends : K → Soaks G → (R : RattleType) (h : R .Denot) (b o : ℕ) → ((k : Loan) → Seq K W (‵ (tokenOf k) ∷ ‵ (refAt R k h b o) ∷ ‵ (lentAt R k b o) ∷ Γ) G)
@@ -187,29 +192,31 @@ module _ {M : Type 1} {𝓤 : URA M} {H : Heap 𝓤} {A : Atoms 𝓤} {K : Type 
       → ((k : Loans) → Seq K W (‵ (tokensOf k) ∷ ‵ (refsAt k d b o T) ∷ ‵ (lentsAt k b o) ∷ raw (FieldsBack 𝓤 H A fullShare b o) ∷ Γ) G)
       → Seq K W (‵ (mem B.the-row .lies d b o) ∷ ‵ T ∷ Γ) G
   lends-fields t z d b o T c =
-      use1 W (‵ (fieldsAt fullShare d b o) ⊛ raw (FieldsBack 𝓤 H A fullShare b o)) (fields-out 𝓤 H A W fullShare b o d) $ split t $ fsplit7 t $
-      -- [the six; true; the way back; T]
-      move t (5 ∷ []) $ lends t z Bytes (d .manager) b (o + 2056) (λ k₅. move t (7 ∷ []) $ lends t z Words (d .derivers) b (o + 1544) (λ k₄.
-      move t (9 ∷ []) $ lends t z Words (d .derives) b (o + 1032) (λ k₃. move t (11 ∷ []) $ lends t z Words (d .a) b (o + 520) (λ k₂.
-      move t (13 ∷ []) $ lends t z Words (d .i) b (o + 8) (λ k₁. move t (15 ∷ []) $ lends t z u64 (d .live) b (o + 0) (λ k₀.
-      move t (0 ∷ 3 ∷ 6 ∷ 9 ∷ 12 ∷ 15 ∷ 18 ∷ []) $ fjoin7 t $ move t (1 ∷ 3 ∷ 5 ∷ 7 ∷ 9 ∷ 11 ∷ 14 ∷ []) $ fjoin7 t $
-      nothing t $ move t (3 ∷ 4 ∷ 5 ∷ 6 ∷ 7 ∷ 8 ∷ 0 ∷ []) $ fjoin7 t $ move t (2 ∷ 1 ∷ 0 ∷ []) $ c (record { live = k₀; i = k₁; a = k₂; derives = k₃; derivers = k₄; manager = k₅ })))))))
+      use1 W (‵ (fieldsAt fullShare d b o) ⊛ raw (FieldsBack 𝓤 H A fullShare b o)) (fields-out 𝓤 H A W fullShare b o d) $ split t $ fsplit8 t $
+      -- [the seven; true; the way back; T]
+      move t (6 ∷ []) $ lends t z Bytes (d .rights) b (o + 2120) (λ k₆. move t (8 ∷ []) $ lends t z Bytes (d .manager) b (o + 2056) (λ k₅.
+      move t (10 ∷ []) $ lends t z Words (d .derivers) b (o + 1544) (λ k₄. move t (12 ∷ []) $ lends t z Words (d .derives) b (o + 1032) (λ k₃.
+      move t (14 ∷ []) $ lends t z Words (d .a) b (o + 520) (λ k₂. move t (16 ∷ []) $ lends t z Words (d .i) b (o + 8) (λ k₁. move t (18 ∷ []) $ lends t z u64 (d .live) b (o + 0) (λ k₀.
+      move t (0 ∷ 3 ∷ 6 ∷ 9 ∷ 12 ∷ 15 ∷ 18 ∷ 21 ∷ []) $ fjoin8 t $ move t (1 ∷ 3 ∷ 5 ∷ 7 ∷ 9 ∷ 11 ∷ 13 ∷ 16 ∷ []) $ fjoin8 t $
+      nothing t $ move t (3 ∷ 4 ∷ 5 ∷ 6 ∷ 7 ∷ 8 ∷ 9 ∷ 0 ∷ []) $ fjoin8 t $ move t (2 ∷ 1 ∷ 0 ∷ []) $
+      c (record { live = k₀; i = k₁; a = k₂; derives = k₃; derivers = k₄; manager = k₅; rights = k₆ }))))))))
 
   -- and the board comes back, with the fields as they were left
   pub takes-fields : K → Soaks G → (k : Loans) (d : Board) (b o : ℕ) (T : Fml)
       → Step K W (‵ (mem B.the-row .lies d b o) ∷ Γ) G (‵ (tokensOf k) ∷ ‵ (lastsOf k d T) ∷ ‵ (lentsAt k b o) ∷ raw (FieldsBack 𝓤 H A fullShare b o) ∷ Γ) G
   takes-fields t z k d b o T = step (λ s.
-      fsplit7 t $ move t (7 ∷ []) $ fsplit7 t $ move t (14 ∷ []) $ fsplit7 t $
-      -- [the lender's six parts; true; the six last values; T; the six tokens; true; the way back]
-      move t (19 ∷ 12 ∷ 5 ∷ []) $ takes t z Bytes (k .manager) (d .manager) b (o + 2056) $
-      move t (17 ∷ 11 ∷ 5 ∷ []) $ takes t z Words (k .derivers) (d .derivers) b (o + 1544) $
-      move t (15 ∷ 10 ∷ 5 ∷ []) $ takes t z Words (k .derives) (d .derives) b (o + 1032) $
-      move t (13 ∷ 9 ∷ 5 ∷ []) $ takes t z Words (k .a) (d .a) b (o + 520) $
-      move t (11 ∷ 8 ∷ 5 ∷ []) $ takes t z Words (k .i) (d .i) b (o + 8) $
-      move t (9 ∷ 7 ∷ 5 ∷ []) $ takes t z u64 (k .live) (d .live) b (o + 0) $
-      fjoin7 t $ move t (0 ∷ 3 ∷ []) $ use2 W (‵ (mem B.the-row .lies d b o)) (fields-in 𝓤 H A W fullShare b o d) $ move t (1 ∷ 2 ∷ []) $ drop t $ drop t $ s)
+      fsplit8 t $ move t (8 ∷ []) $ fsplit8 t $ move t (16 ∷ []) $ fsplit8 t $
+      -- [the lender's seven parts; true; the seven last values; T; the seven tokens; true; the way back]
+      move t (22 ∷ 14 ∷ 6 ∷ []) $ takes t z Bytes (k .rights) (d .rights) b (o + 2120) $
+      move t (20 ∷ 13 ∷ 6 ∷ []) $ takes t z Bytes (k .manager) (d .manager) b (o + 2056) $
+      move t (18 ∷ 12 ∷ 6 ∷ []) $ takes t z Words (k .derivers) (d .derivers) b (o + 1544) $
+      move t (16 ∷ 11 ∷ 6 ∷ []) $ takes t z Words (k .derives) (d .derives) b (o + 1032) $
+      move t (14 ∷ 10 ∷ 6 ∷ []) $ takes t z Words (k .a) (d .a) b (o + 520) $
+      move t (12 ∷ 9 ∷ 6 ∷ []) $ takes t z Words (k .i) (d .i) b (o + 8) $
+      move t (10 ∷ 8 ∷ 6 ∷ []) $ takes t z u64 (k .live) (d .live) b (o + 0) $
+      fjoin8 t $ move t (0 ∷ 3 ∷ []) $ use2 W (‵ (mem B.the-row .lies d b o)) (fields-in 𝓤 H A W fullShare b o d) $ move t (1 ∷ 2 ∷ []) $ drop t $ drop t $ s)
 
--- ---- to be read: of a share of a board `live` stays, and the five tables are lent for one lifetime
+-- ---- to be read: of a share of a board `live` stays, and the six tables are lent for one lifetime
 pub record Views : Type 0 where
   pub lifetime : ℕ
   pub i : GName
@@ -217,6 +224,7 @@ pub record Views : Type 0 where
   pub derives : GName
   pub derivers : GName
   pub manager : GName
+  pub rights : GName
 
 abbrev pub viewOf : (R : RattleType) → ℕ → GName → R .Denot → ℕ → ℕ → Fml
 viewOf R ν γ h b o = ShrRef (named 0) (ν ∷ []) R .own (record { ptr = (b, o); name = γ; now = h }) (vptr b o ∷ [])
@@ -229,20 +237,27 @@ module _ (k : Views) (d : Board) (b o : ℕ) where
   viewsAt T =
       fsep (u64 .own (d .live) (vint w64 (d .live) ∷ [])) (fsep (viewOf Words (k .lifetime) (k .i) (d .i) b (o + 8)) (fsep (viewOf Words (k .lifetime) (k .a) (d .a) b (o + 520))
       (fsep (viewOf Words (k .lifetime) (k .derives) (d .derives) b (o + 1032)) (fsep (viewOf Words (k .lifetime) (k .derivers) (d .derivers) b (o + 1544))
-      (fsep (viewOf Bytes (k .lifetime) (k .manager) (d .manager) b (o + 2056)) T)))))
+      (fsep (viewOf Bytes (k .lifetime) (k .manager) (d .manager) b (o + 2056)) (fsep (viewOf Bytes (k .lifetime) (k .rights) (d .rights) b (o + 2120)) T))))))
 
   abbrev pub hiddenAt : Share → Fml
   hiddenAt q =
       fsep (u64 .own (d .live) (vint w64 (d .live) ∷ [])) (fsep (flent (k .lifetime ∷ []) (partAt Words q (d .i) b (o + 8))) (fsep (flent (k .lifetime ∷ []) (partAt Words q (d .a) b (o + 520)))
       (fsep (flent (k .lifetime ∷ []) (partAt Words q (d .derives) b (o + 1032))) (fsep (flent (k .lifetime ∷ []) (partAt Words q (d .derivers) b (o + 1544)))
-      (fsep (flent (k .lifetime ∷ []) (partAt Bytes q (d .manager) b (o + 2056))) ftrue)))))
+      (fsep (flent (k .lifetime ∷ []) (partAt Bytes q (d .manager) b (o + 2056))) (fsep (flent (k .lifetime ∷ []) (partAt Bytes q (d .rights) b (o + 2120))) ftrue))))))
 
   -- as the arguments of a callee's triple, before its other arguments
-  abbrev pub viewsOf : {X : Type 0} → X → ℕ × (RefT (List ℕ) × (RefT (List ℕ) × (RefT (List ℕ) × (RefT (List ℕ) × (RefT (List ℕ) × X)))))
-  viewsOf t = (d .live, (record { ptr = (b, o + 8); name = k .i; now = d .i }, (record { ptr = (b, o + 520); name = k .a; now = d .a }, (record { ptr = (b, o + 1032); name = k .derives; now = d .derives }, (record { ptr = (b, o + 1544); name = k .derivers; now = d .derivers }, (record { ptr = (b, o + 2056); name = k .manager; now = d .manager }, t))))))
+  abbrev pub viewsOf : {X : Type 0} → X → ℕ × (RefT (List ℕ) × (RefT (List ℕ) × (RefT (List ℕ) × (RefT (List ℕ) × (RefT (List ℕ) × (RefT (List ℕ) × X))))))
+  viewsOf t = (d .live, (record { ptr = (b, o + 8); name = k .i; now = d .i }, (record { ptr = (b, o + 520); name = k .a; now = d .a }, (record { ptr = (b, o + 1032); name = k .derives; now = d .derives }, (record { ptr = (b, o + 1544); name = k .derivers; now = d .derivers }, (record { ptr = (b, o + 2056); name = k .manager; now = d .manager }, (record { ptr = (b, o + 2120); name = k .rights; now = d .rights }, t)))))))
 
-abbrev pub viewPointersOf : {X : Type 0} → Board → ℕ → ℕ → X → List Val × (List Val × (List Val × (List Val × (List Val × (List Val × X)))))
-viewPointersOf d b o t = (vint w64 (d .live) ∷ [], (vptr b (o + 8) ∷ [], (vptr b (o + 520) ∷ [], (vptr b (o + 1032) ∷ [], (vptr b (o + 1544) ∷ [], (vptr b (o + 2056) ∷ [], t))))))
+abbrev pub viewPointersOf : {X : Type 0} → Board → ℕ → ℕ → X → List Val × (List Val × (List Val × (List Val × (List Val × (List Val × (List Val × X))))))
+viewPointersOf d b o t = (vint w64 (d .live) ∷ [], (vptr b (o + 8) ∷ [], (vptr b (o + 520) ∷ [], (vptr b (o + 1032) ∷ [], (vptr b (o + 1544) ∷ [], (vptr b (o + 2056) ∷ [], (vptr b (o + 2120) ∷ [], t)))))))
+
+-- what a callee leaves of these seven is nothing; what it leaves of its other arguments follows
+abbrev pub Unchanged : Type 0 → Type 0
+Unchanged X = Unit {0} × (Unit {0} × (Unit {0} × (Unit {0} × (Unit {0} × (Unit {0} × (Unit {0} × X))))))
+
+abbrev pub others : {X : Type 0} → Unchanged X → X
+others z = z .1 .1 .1 .1 .1 .1 .1
 
 module _ {M : Type 1} {𝓤 : URA M} {H : Heap 𝓤} {A : Atoms 𝓤} {K : Type 0} {W : Given 𝓤 H A} {Γ : List (Item 𝓤)} {G : Goal 𝓤 H} where
   -- a value's cell and what it owns, out of memory and back
@@ -269,22 +284,24 @@ module _ {M : Type 1} {𝓤 : URA M} {H : Heap 𝓤} {A : Atoms 𝓤} {K : Type 
       → ((k : Views) → d .live < 2 ^ 64 → Seq K W (‵ (flft (k .lifetime ∷ []) fullShare) ∷ ‵ (viewsAt k d b o T) ∷ ‵ (hiddenAt k d b o q) ∷ raw (FieldsBack 𝓤 H A q b o) ∷ ‵ (liveAt q d b o) ∷ Γ) G)
       → Seq K W (‵ (partAt B.the-row q d b o) ∷ ‵ T ∷ Γ) G
   views-fields t z q d b o T c =
-      use1 W (‵ (fieldsAt q d b o) ⊛ raw (FieldsBack 𝓤 H A q b o)) (fields-out 𝓤 H A W q b o d) $ split t $ fsplit7 t $
+      use1 W (‵ (fieldsAt q d b o) ⊛ raw (FieldsBack 𝓤 H A q b o)) (fields-out 𝓤 H A W q b o d) $ split t $ fsplit8 t $
       cell-out t u64 q (d .live) b (o + 0) (λ vs. spelt t u64 (Is u64) (shows 𝓤 H A u64) (uint-vals w64) (uint-tells w64) q (d .live) vs b (o + 0) $
       move t (1 ∷ []) $ peeks t u64 (Is u64) (shows 𝓤 H A u64) (d .live) (vint w64 (d .live) ∷ []) (λ is.
-      -- [what live owns; its cell; the five tables; true; the way back; T]
-      lft-new t z (λ ν. move t (7 ∷ []) $ views t z Bytes ν q (d .manager) b (o + 2056) (λ γ₅. move t (8 ∷ []) $ views t z Words ν q (d .derivers) b (o + 1544) (λ γ₄.
-      move t (9 ∷ []) $ views t z Words ν q (d .derives) b (o + 1032) (λ γ₃. move t (10 ∷ []) $ views t z Words ν q (d .a) b (o + 520) (λ γ₂.
-      move t (11 ∷ []) $ views t z Words ν q (d .i) b (o + 8) (λ γ₁. move t (11 ∷ 0 ∷ 2 ∷ 4 ∷ 6 ∷ 8 ∷ 15 ∷ []) $ fjoin7 t $
-      owned t u64 (Is u64) (uint-makes 𝓤 H A W w64) (d .live) (vint w64 (d .live) ∷ []) is $ move t (0 ∷ 2 ∷ 3 ∷ 4 ∷ 5 ∷ 6 ∷ 9 ∷ []) $ fjoin7 t $
-      move t (2 ∷ 1 ∷ 0 ∷ 4 ∷ 3 ∷ []) $ c (record { lifetime = ν; i = γ₁; a = γ₂; derives = γ₃; derivers = γ₄; manager = γ₅ }) (is .1)))))))))
+      -- [what live owns; its cell; the six tables; true; the way back; T]
+      lft-new t z (λ ν. move t (8 ∷ []) $ views t z Bytes ν q (d .rights) b (o + 2120) (λ γ₆. move t (9 ∷ []) $ views t z Bytes ν q (d .manager) b (o + 2056) (λ γ₅.
+      move t (10 ∷ []) $ views t z Words ν q (d .derivers) b (o + 1544) (λ γ₄. move t (11 ∷ []) $ views t z Words ν q (d .derives) b (o + 1032) (λ γ₃.
+      move t (12 ∷ []) $ views t z Words ν q (d .a) b (o + 520) (λ γ₂. move t (13 ∷ []) $ views t z Words ν q (d .i) b (o + 8) (λ γ₁.
+      move t (13 ∷ 0 ∷ 2 ∷ 4 ∷ 6 ∷ 8 ∷ 10 ∷ 17 ∷ []) $ fjoin8 t $
+      owned t u64 (Is u64) (uint-makes 𝓤 H A W w64) (d .live) (vint w64 (d .live) ∷ []) is $ move t (0 ∷ 2 ∷ 3 ∷ 4 ∷ 5 ∷ 6 ∷ 7 ∷ 10 ∷ []) $ fjoin8 t $
+      move t (2 ∷ 1 ∷ 0 ∷ 4 ∷ 3 ∷ []) $ c (record { lifetime = ν; i = γ₁; a = γ₂; derives = γ₃; derivers = γ₄; manager = γ₅; rights = γ₆ }) (is .1))))))))))
 
   pub hides-fields : K → Soaks G → (k : Views) (q : Share) (d : Board) (b o : ℕ)
       → Step K W (‵ (partAt B.the-row q d b o) ∷ Γ) G (‵ (flft (k .lifetime ∷ []) fullShare) ∷ ‵ (hiddenAt k d b o q) ∷ raw (FieldsBack 𝓤 H A q b o) ∷ ‵ (liveAt q d b o) ∷ Γ) G
   hides-fields t z k q d b o = step (λ s.
-      lft-end t z $ move t (1 ∷ []) $ fsplit7 t $
-      -- [what live owns; the lender's five parts; true; the lifetime is over; the way back; live's cell]
-      move t (7 ∷ 5 ∷ []) $ hides t z (k .lifetime ∷ []) (partAt Bytes q (d .manager) b (o + 2056)) $ move t (1 ∷ 6 ∷ []) $ hides t z (k .lifetime ∷ []) (partAt Words q (d .derivers) b (o + 1544)) $
-      move t (1 ∷ 6 ∷ []) $ hides t z (k .lifetime ∷ []) (partAt Words q (d .derives) b (o + 1032)) $ move t (1 ∷ 6 ∷ []) $ hides t z (k .lifetime ∷ []) (partAt Words q (d .a) b (o + 520)) $
-      move t (1 ∷ 6 ∷ []) $ hides t z (k .lifetime ∷ []) (partAt Words q (d .i) b (o + 8)) $ move t (9 ∷ 6 ∷ []) $ cell-in t u64 q (d .live) (vint w64 (d .live) ∷ []) b (o + 0) $
-      move t (0 ∷ 1 ∷ 3 ∷ 4 ∷ 5 ∷ 6 ∷ 7 ∷ []) $ fjoin7 t $ move t (0 ∷ 2 ∷ []) $ use2 W (‵ (partAt B.the-row q d b o)) (fields-in 𝓤 H A W q b o d) $ move t (1 ∷ []) $ drop t $ s)
+      lft-end t z $ move t (1 ∷ []) $ fsplit8 t $
+      -- [what live owns; the lender's six parts; true; the lifetime is over; the way back; live's cell]
+      move t (8 ∷ 6 ∷ []) $ hides t z (k .lifetime ∷ []) (partAt Bytes q (d .rights) b (o + 2120)) $ move t (1 ∷ 7 ∷ []) $ hides t z (k .lifetime ∷ []) (partAt Bytes q (d .manager) b (o + 2056)) $
+      move t (1 ∷ 7 ∷ []) $ hides t z (k .lifetime ∷ []) (partAt Words q (d .derivers) b (o + 1544)) $ move t (1 ∷ 7 ∷ []) $ hides t z (k .lifetime ∷ []) (partAt Words q (d .derives) b (o + 1032)) $
+      move t (1 ∷ 7 ∷ []) $ hides t z (k .lifetime ∷ []) (partAt Words q (d .a) b (o + 520)) $ move t (1 ∷ 7 ∷ []) $ hides t z (k .lifetime ∷ []) (partAt Words q (d .i) b (o + 8)) $
+      move t (10 ∷ 7 ∷ []) $ cell-in t u64 q (d .live) (vint w64 (d .live) ∷ []) b (o + 0) $
+      move t (0 ∷ 1 ∷ 3 ∷ 4 ∷ 5 ∷ 6 ∷ 7 ∷ 8 ∷ []) $ fjoin8 t $ move t (0 ∷ 2 ∷ []) $ use2 W (‵ (partAt B.the-row q d b o)) (fields-in 𝓤 H A W q b o d) $ move t (1 ∷ []) $ drop t $ s)

@@ -1,10 +1,11 @@
 -- The founding board is sound. Assumes nothing.
-use mathlib.Core.Path.{_≡_, refl, sym, ap, _∙_}
+use mathlib.Core.Path.{_≡_, refl, sym, ap, _∙_, subst}
+use mathlib.Core.Bool.{false}
 use mathlib.Core.Logic.{inr, _↔_, Iff·trans, Iff·symm}
 use mathlib.Core.List.{_∷_}
-use Prim.Native.Nat.{ℕ, zero, suc}
+use Prim.Native.Nat.{ℕ, zero, suc, _≤_}
 use native.Mathlib.Omega.{arith}
-use lib.Dec.{lit<}
+use lib.Dec.{lit<, lit≤}
 use lib.ListN.{replicate}
 use Rattle.sets.specs.Sets.{bit, _isIn_}
 use Rattle.sets.proofs.Bools.{false-no}
@@ -16,6 +17,7 @@ use Rattle.hierarchy.specs.Compute.{all, any, spread, grow, close, derived, der
 use Rattle.hierarchy.proofs.Admin.{derives-refl}
 use Rattle.hierarchy.proofs.Decide.{sound-is}
 use Rattle.hierarchy.proofs.Rows.{one-entry}
+use Rattle.board.specs.Rights.{rightsOf, foundingRights}
 use Rattle.board.specs.Boards.{tablesOf, foundingBoard, KeepsRight, SoundBoard}
 
 tables-sound : Sound (tablesOf foundingBoard)
@@ -55,4 +57,13 @@ keeps-right = record {
 }
 
 pub founding-sound : SoundBoard foundingBoard
-founding-sound = record { sound = tables-sound; right = keeps-right }
+unfolding foundingBoard
+founding-sound = record { sound = tables-sound; right = keeps-right; rightful = record { rows = refl; five = five; living = living } }
+  where
+    five : (x : ℕ) → rightsOf foundingRights x ≤ 31
+    five zero = lit≤ tt
+    five (suc x) = subst (λ (n : ℕ). n ≤ 31) (sym (one-entry 63 x 0)) (lit≤ tt)
+
+    living : (x : ℕ) → bit 1 x ≡ false → rightsOf foundingRights x ≡ 0
+    living zero e = absurd (false-no e root)
+    living (suc x) e = one-entry 63 x 0

@@ -9,6 +9,7 @@ pub mod Edits
 pub mod EdgeParts
 pub mod TakingBack
 pub mod Looking
+pub mod Using
 pub mod Trying
 pub mod Blaming
 pub mod Offenders

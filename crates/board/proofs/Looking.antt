@@ -18,6 +18,7 @@ use Rattle.hierarchy.proofs.Decide.{loops-dec, live-loops-dec, managed-dec}
 use Rattle.hierarchy.proofs.FirstLaws.{hit, pass, passed, none, first-unique}
 use Rattle.hierarchy.proofs.Order.{order-no-loop, inward-order, order-loopless}
 use Rattle.hierarchy.proofs.ManagerLaws.{values-unique}
+use Rattle.board.specs.Rights.{RightsFit}
 use Rattle.board.specs.Boards.{boardOf, SoundBoard}
 use Rattle.board.specs.Commands.{Outside}
 use Rattle.board.specs.Looks.{OutOfOrder, late}
@@ -122,9 +123,9 @@ module _ {t : Tables} {du mu d u m : List ℕ} {n : ℕ} (w : WorkedOut t du mu 
   worked-right z = w .right (λ e. omega (arith, z, e))
 
 -- a board keeps what was worked out for it, or it is not sound
-pub kept-is : {live : ℕ} {i a d u m down up managers : List ℕ} {r : Bool} → Sound (tables live i a) → RightValues (tables live i a) down up managers
-    → (r ≡ true) ↔ ((d ≡ down) × ((u ≡ up) × (m ≡ managers))) → (r ≡ true) ↔ SoundBoard (boardOf live i a d u m)
-kept-is {live} {i} {a} sound worked same = (
-  λ e. let h = same .0 e in record { sound = sound; right = rw (h .0, h .1 .0, h .1 .1) worked },
+pub kept-is : {live : ℕ} {i a d u m rights down up managers : List ℕ} {r : Bool} → Sound (tables live i a) → RightsFit live rights → RightValues (tables live i a) down up managers
+    → (r ≡ true) ↔ ((d ≡ down) × ((u ≡ up) × (m ≡ managers))) → (r ≡ true) ↔ SoundBoard (boardOf live i a d u m rights)
+kept-is {live} {i} {a} sound fit worked same = (
+  λ e. let h = same .0 e in record { sound = sound; right = rw (h .0, h .1 .0, h .1 .1) worked; rightful = fit },
   λ s. same .1 (values-unique (sound-loopless sound) (s .right) worked),
 )

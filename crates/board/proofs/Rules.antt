@@ -31,6 +31,18 @@ first-done [] e f = tt
 first-done (rule ∷ rest) e (inl p) = absurd (omega (arith, p .1, ltb-true 0 (rule .0) (and-left (ltb 0 (rule .0)) (numbered rest) e)))
 first-done (rule ∷ rest) e (inr p) = (p .0, first-done rest (and-right (ltb 0 (rule .0)) (numbered rest) e) (p .1))
 
+-- without a rule the answer is done
+pub first-none : {n : ℕ} → First [] n → n ≡ 0
+unfolding First
+first-none f = f
+
+-- of two tables in a row both are
+pub done-both : (xs ys : List (ℕ × Type 0)) → numbered xs ≡ true → First (xs ++ ys) 0 → Passed xs × First ys 0
+unfolding First
+done-both [] ys e f = (tt, f)
+done-both (rule ∷ rest) ys e (inl p) = absurd (omega (arith, p .1, ltb-true 0 (rule .0) (and-left (ltb 0 (rule .0)) (numbered rest) e)))
+done-both (rule ∷ rest) ys e (inr p) = let q = done-both rest ys (and-right (ltb 0 (rule .0)) (numbered rest) e) (p .1) in ((p .0, q .0), q .1)
+
 -- a number that no rule has, and that isn't done's
 abbrev pub lacks : ℕ → List (ℕ × Type 0) → Bool
 lacks k [] = not (eqb 0 k)

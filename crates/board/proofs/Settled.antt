@@ -10,7 +10,7 @@ use lib.Count.{ones}
 use lib.ListN.{getD, length}
 use lib.Seq.{ext-getD}
 use Rattle.sets.specs.Sets.{_isIn_}
-use Rattle.sets.proofs.Bools.{true-or-false, test-unique}
+use Rattle.sets.proofs.Bools.{true-or-false, test-unique, lt-or-ge}
 use Rattle.sets.proofs.Laws.{ones-mono}
 use Rattle.hierarchy.specs.Tables.{Tables}
 use Rattle.hierarchy.specs.Words.{OutOfScope, Sound}
@@ -24,13 +24,15 @@ use Rattle.hierarchy.proofs.Bars.{out-unique, out-by-unique}
 use Rattle.board.specs.Boards.{tablesOf, boardOf, KeepsRight, SoundBoard}
 use Rattle.board.specs.Commands.{DecidedBy, Decided}
 use Rattle.board.specs.Questions.{refusals, Answered, Says, Counts, Tells, DerivesAnswer, ScopeAnswer, Manages, ManagerAnswer, StepsAnswer}
-use Rattle.board.specs.Looks.{DecidedOff, DerivesOff, ScopeOff, ManagerOff, StepsOff}
+use Rattle.board.specs.Looks.{late, lateOf, beforeOff, DecidedOff, DerivesOff, ScopeOff, ManagerOff, StepsOff}
 use Rattle.board.specs.declared.Board.{Board}
 use Rattle.board.specs.declared.Command.{Command}
 use Rattle.board.specs.declared.commands.Answer.{Answer}
 use Rattle.board.specs.declared.questions.Manager.{Manager}
 use Rattle.board.specs.declared.questions.Manager.the-variants.{Role, Nobody}
-use Rattle.board.proofs.Rules.{stable, first-done}
+use Rattle.board.specs.Effects.{after}
+use Rattle.board.proofs.Rules.{stable, first-done, done-both}
+use Rattle.board.proofs.Trying.{late-low}
 use Rattle.board.proofs.Asking.{asked-sound}
 use Rattle.board.proofs.Blaming.{blames-one, names-one}
 
@@ -40,15 +42,15 @@ by-number n f g = dite (ℕ-discrete n 0) f g
 
 -- ---- a board
 
--- Tables without a loop and right values leave one board,
-pub right-board : {b d : Board} → (LiveLoops (tablesOf b) → ⊥) → KeepsRight b → KeepsRight d → tablesOf b ≡ tablesOf d → b ≡ d
-right-board {b} {d} loopless v w e =
+-- Tables without a loop, rights and right values leave one board,
+pub right-board : {b d : Board} → (LiveLoops (tablesOf b) → ⊥) → KeepsRight b → KeepsRight d → tablesOf b ≡ tablesOf d → b .rights ≡ d .rights → b ≡ d
+right-board {b} {d} loopless v w e r =
     let q = values-unique loopless v (subst (λ (t : Tables). RightValues t (d .derives) (d .derivers) (d .manager)) (sym e) w) in
-    λ k. boardOf (e k .live) (e k .i) (e k .a) (q .0 k) (q .1 .0 k) (q .1 .1 k)
+    λ k. boardOf (e k .live) (e k .i) (e k .a) (q .0 k) (q .1 .0 k) (q .1 .1 k) (r k)
 
--- and so do tables and soundness.
-pub one-board : {b d : Board} → SoundBoard b → SoundBoard d → tablesOf b ≡ tablesOf d → b ≡ d
-one-board s r e = right-board (sound-loopless (s .sound)) (s .right) (r .right) e
+-- and so do tables, rights and soundness.
+pub one-board : {b d : Board} → SoundBoard b → SoundBoard d → tablesOf b ≡ tablesOf d → b .rights ≡ d .rights → b ≡ d
+one-board s r e h = right-board (sound-loopless (s .sound)) (s .right) (r .right) e h
 
 -- Two boards that can't differ don't: they are made of numbers.
 list-stable : (xs ys : List ℕ) → ((xs ≡ ys → ⊥) → ⊥) → xs ≡ ys
@@ -57,7 +59,7 @@ list-stable xs ys h = ext-getD 0 xs ys
     (λ n _. stable (ℕ-discrete (getD xs n 0) (getD ys n 0)) (λ k. h (λ e. k (ap (λ (l : List ℕ). getD l n 0) e))))
 
 pub board-stable : (b d : Board) → ((b ≡ d → ⊥) → ⊥) → b ≡ d
-board-stable b d h = λ k. boardOf (live k) (part (λ x. x .i) k) (part (λ x. x .a) k) (part (λ x. x .derives) k) (part (λ x. x .derivers) k) (part (λ x. x .manager) k)
+board-stable b d h = λ k. boardOf (live k) (part (λ x. x .i) k) (part (λ x. x .a) k) (part (λ x. x .derives) k) (part (λ x. x .derivers) k) (part (λ x. x .manager) k) (part (λ x. x .rights) k)
   where
     live : b .live ≡ d .live
     live = stable (ℕ-discrete (b .live) (d .live)) (λ n. h (λ e. n (ap (λ (x : Board). x .live) e)))
@@ -68,25 +70,30 @@ board-stable b d h = λ k. boardOf (live k) (part (λ x. x .i) k) (part (λ x. x
 -- ---- a command, by whatever table
 
 decided-one : {rules : List (ℕ × Type 0)} {Blame : Answer → Type 0} {Fit : Board → Type 0} {b : Board} {c : Command} {m n : Answer} {x y : Board}
-    → (m .number ≡ n .number → Blame m → Blame n → m ≡ n) → (m .number ≡ 0 → Fit x → Fit y → tablesOf x ≡ tablesOf y → x ≡ y)
+    → (m .number ≡ n .number → Blame m → Blame n → m ≡ n) → (m .number ≡ 0 → Fit x → Fit y → tablesOf x ≡ tablesOf y → x .rights ≡ y .rights → x ≡ y)
     → DecidedBy rules Blame Fit b c m x → DecidedBy rules Blame Fit b c n y → (m ≡ n) × (x ≡ y)
 decided-one {m = m} {n = n} blamed one d e =
     let q = first-unique _ (m .number) (n .number) (d .numbered) (e .numbered) in (
       names-one (blamed q) q (d .named) (e .named),
       by-number (m .number)
-          (λ z. let f = d .done z in let g = e .done (sym q ∙ z) in one z (f .fit) (g .fit) (f .tables-are ∙ sym (g .tables-are)))
+          (λ z. let f = d .done z in let g = e .done (sym q ∙ z) in one z (f .fit) (g .fit) (f .tables-are ∙ sym (g .tables-are)) (f .rights-are ∙ sym (g .rights-are)))
           (λ z. d .refused z ∙ sym (e .refused (λ w. z (q ∙ w)))),
     )
 
 pub decided-unique : {b : Board} {c : Command} {m n : Answer} {x y : Board} → Decided b c m x → Decided b c n y → (m ≡ n) × (x ≡ y)
-decided-unique = decided-one (blames-one (λ a x c d v w. out-unique)) (λ _. one-board)
+decided-unique = decided-one (blames-one (λ a x c d v w. out-unique)) (λ _ s r. one-board s r)
 
--- a command that is done leaves no loop, whatever the board was
+-- a command that is done leaves no loop where it may change the tables, whatever the board was
 pub decided-off-unique : {b : Board} {c : Command} {m n : Answer} {x y : Board} → DecidedOff b c m x → DecidedOff b c n y → (m ≡ n) × (x ≡ y)
-decided-off-unique d = decided-one (blames-one (λ a x c d v w. out-by-unique))
-    (λ z. right-board (λ l.
-    let rows = first-done _ refl (subst (First _) z (d .numbered)) in
-    rows .1 .1 .1 .1 .1 .1 .0 (subst (λ (t : Tables). LiveLoops t) (d .done z .tables-are) l))) d
+decided-off-unique {b} {c} d = decided-one (blames-one (λ a x c d v w. out-by-unique))
+    (λ z f g e r. ⊎-elim
+    (λ high. let p = f .left high in let q = g .left high in
+    λ k. boardOf (e k .live) (e k .i) (e k .a) ((p .0 ∙ sym (q .0)) k) ((p .1 ∙ sym (q .1)) k) ((p .2 ∙ sym (q .2)) k) (r k))
+    (λ low. right-board (λ l.
+    let rows = done-both (beforeOff b c) (lateOf (after (tablesOf b) c) c) refl (subst (First _) z (d .numbered)) .1 in
+    first-done (late (after (tablesOf b) c) c) refl (subst (λ (t : List (ℕ × Type 0)). First t 0) (late-low _ c low) rows) .1 .0 (subst (λ (t : Tables). LiveLoops t) (d .done z .tables-are) l))
+    (f .worked-out low) (g .worked-out low) e r)
+    (lt-or-ge 5 (c .code))) d
 
 -- ---- a question, by whatever table, where one value is right
 

@@ -21,7 +21,8 @@ use Rattle.board.specs.Effects.{lives, pair, entry, after}
 use Rattle.board.specs.Commands.{asSenior, asJunior, needed, strictly, Malformed, Malformed.no-code, Missing, InScope, edgeKind, onTables}
 use Rattle.board.specs.declared.Command.{Command}
 use Rattle.board.proofs.Rules.{stable, first-done}
-use Rattle.board.proofs.Edits.{table-length, table-fits, in-table, entry-1, entry-2, entry-other, idles, live-stays, tables-are}
+use Rattle.board.proofs.Blaming.{OnEdge, edge-is}
+use Rattle.board.proofs.Edits.{table-length, table-fits, in-table, entry-1, entry-2, entry-past, entry-other, idles, live-stays, tables-are}
 
 -- ---- the shape, by construction
 
@@ -47,11 +48,11 @@ module _ (c : Command) (o : Bool) (x : ℕ) where
   unfolding lives
   lives-new e q = rw (e, eq-eqb x (c .role) q) (or-true o)
 
-  lives-left : c .code ≡ 2 → o ≡ true → x ≢ c .role → lives c o x ≡ true
+  pub lives-left : c .code ≡ 2 → o ≡ true → x ≢ c .role → lives c o x ≡ true
   unfolding lives
   lives-left e h n = rw (e, h, ne-eqb x (c .role) n)
 
-  lives-kept : c .code ≢ 2 → o ≡ true → lives c o x ≡ true
+  pub lives-kept : c .code ≢ 2 → o ≡ true → lives c o x ≡ true
   unfolding lives
   lives-kept n h = rw (h, ne-eqb (c .code) 2 n) (same (eqb (c .code) 1))
     where
@@ -68,10 +69,10 @@ module _ (c : Command) (x : ℕ) where
   unfolding needed
   needed-junior e h = rw (e, h, or-true (asSenior c x)) (or-true (eqb x (c .actor)))
 
-  needed-end : 3 ≤ c .code → (eqb x (c .role) || eqb x (c .junior)) ≡ true → needed c x ≡ true
+  needed-end : OnEdge c → (eqb x (c .role) || eqb x (c .junior)) ≡ true → needed c x ≡ true
   unfolding needed
   needed-end l h =
-      rw (le-leb 3 (c .code) l, le-leb 2 (c .code) (omega arith), h, or-true (eqb (c .code) 1 && (asSenior c x || asJunior c x))) (or-true (eqb x (c .actor)))
+      rw (edge-is c .1 l, le-leb 2 (c .code) (omega (arith, l .0)), h, or-true (eqb (c .code) 1 && (asSenior c x || asJunior c x))) (or-true (eqb x (c .actor)))
 
 -- ---- each entry joins roles that live afterwards
 
@@ -116,13 +117,17 @@ module _ (b : Tables) (c : Command) (formed : Malformed c → ⊥) (present : (x
 
     edged : c .code ≢ 1 → c .code ≢ 2 → Alive x × Alive y
     edged n1 n2 =
-        let three : 3 ≤ c .code = ⊎-elim (λ l. absurd (formed (no-code (inl l)))) (λ g. omega arith) (lt-or-ge (c .code) 1) in ⊎-elim
+        let three : 3 ≤ c .code = ⊎-elim (λ l. absurd (formed (no-code (inl l)))) (λ g. omega arith) (lt-or-ge (c .code) 1) in
+        let left : entry c s j p o x y ≡ o → Alive x × Alive y = λ q. let l = joined x y (sym q ∙ here) in (alive x n2 (l .0), alive y n2 (l .1)) in ⊎-elim
+        (λ past. left (entry-past c s j p o x y past))
+        (λ five. ⊎-elim
         (λ q. (
-          alive x n2 (present x (needed-end c x three (or-left (eqb x (c .role)) (eqb x (c .junior)) (and-left (eqb x (c .role)) (eqb y (c .junior)) q)))),
-          alive y n2 (present y (needed-end c y three (or-right (eqb y (c .role)) (eqb y (c .junior)) (and-right (eqb x (c .role)) (eqb y (c .junior)) q)))),
+          alive x n2 (present x (needed-end c x (three, five) (or-left (eqb x (c .role)) (eqb x (c .junior)) (and-left (eqb x (c .role)) (eqb y (c .junior)) q)))),
+          alive y n2 (present y (needed-end c y (three, five) (or-right (eqb y (c .role)) (eqb y (c .junior)) (and-right (eqb x (c .role)) (eqb y (c .junior)) q)))),
         ))
-        (λ q. let l = joined x y (sym (entry-other c s j p o x y n1 n2 q) ∙ here) in (alive x n2 (l .0), alive y n2 (l .1)))
-        (true-or-false (pair c x y))
+        (λ q. left (entry-other c s j p o x y n1 n2 q))
+        (true-or-false (pair c x y)))
+        (lt-or-ge 5 (c .code))
 
     both-alive : Alive x × Alive y
     both-alive = ⊎-elim
@@ -166,10 +171,10 @@ root-after b c sound scoped = live-after b c 0 (lit< tt) (⊎-elim
     (true-or-false (eqb (c .code) 2)))
 
 -- A done command on sound tables leaves sound tables.
-pub sound-after : (b : Tables) (c : Command) → Sound b → First (onTables b c) 0 → Sound (after b c)
-sound-after b c sound f =
-    let rows = first-done (onTables b c) refl f in
-    let late = rows .1 .1 .1 .1 in record {
+pub sound-after : (b : Tables) (rights : List ℕ) (c : Command) → Sound b → First (onTables b rights c) 0 → Sound (after b c)
+sound-after b rights c sound f =
+    let rows = first-done (onTables b rights c) refl f in
+    let late = rows .1 .1 .1 .1 .1 in record {
       shaped = shaped-after b c;
       joined = joined-after b c (sound .joined) (rows .0) (rows .1 .0);
       loopless = late .1 .0;

@@ -6,7 +6,7 @@ use mathlib.Core.List.{List}
 use Prim.Native.Nat.{ℕ, _<_}
 use native.Mathlib.Omega.{arith}
 use lib.Dec.{eqb}
-use borrow.Author.Tests.{eqb-true, eq-eqb}
+use borrow.Author.Tests.{eqb-true, eq-eqb, leb-true}
 use Rattle.sets.specs.Sets.{bit, _isIn_}
 use Rattle.sets.proofs.Bools.{or-cases, or-left, or-right, and-left, false-no}
 use Rattle.hierarchy.specs.Tables.{Tables, Live, row, kind, hasI, hasA}
@@ -16,14 +16,17 @@ use Rattle.hierarchy.proofs.Decide.{edge-lt}
 use Rattle.hierarchy.proofs.Derive.{derives↔descends, i-entry, a-entry}
 use Rattle.hierarchy.proofs.FirstLaws.{pass, none}
 use Rattle.board.specs.Effects.{pair, entry, tableAfter, after}
+use Rattle.board.specs.Rights.{Entitled}
 use Rattle.board.specs.Commands.{needed, scoped, strictly, Malformed, Missing, Standing, Lacking, InScope, afterwards, onTables}
-use Rattle.board.specs.Commands.{Malformed.no-code, Malformed.no-actor, Malformed.no-role, Malformed.no-junior, Malformed.no-kind, Standing.role, Standing.edge, Lacking.no-part, Lacking.no-edge}
+use Rattle.board.specs.Commands.{Malformed.no-code, Malformed.no-actor, Malformed.no-role, Malformed.no-junior, Malformed.no-kind, Malformed.no-rights, Standing.role, Standing.edge, Lacking.no-part, Lacking.no-edge}
 use Rattle.board.specs.EdgeParts.{NoneStands, TakesBack}
 use Rattle.board.specs.declared.Command.{Command}
 use Rattle.board.proofs.Rules.{Passed, first-done}
 use Rattle.board.proofs.Edits.{table-entry, in-table, entry-3, live-stays}
 use Rattle.board.proofs.EdgeParts.{added, taken-back}
+use Rattle.board.proofs.Blaming.{OnEdge, edge-is}
 use Rattle.board.proofs.Trying.{role-lt, junior-lt}
+use Rattle.board.proofs.Using.{may-use-more}
 
 -- a table that grew in the row of s alone
 record Grows (s : ℕ) (old new : List ℕ) : Type 0 where
@@ -65,9 +68,9 @@ module _ {s : ℕ} {t u : Tables} (live : (x : ℕ) → bit (t .live) x ≡ bit 
 pub sound-passes : (t : Tables) (c : Command) → Sound t → c .code ≢ 1 → First (afterwards t c) 0
 sound-passes t c sound n = pass _ _ _ _ (sound .loopless) (pass _ _ _ _ (λ o. n (o .adds)) (pass _ _ _ _ (λ k. k (sound .managed)) none))
 
-module _ {c d : Command} (t : Tables) (w : TakesBack c d) (sound : Sound t) (f : First (onTables t c) 0) where
-  rows : Passed (onTables t c)
-  rows = first-done (onTables t c) refl f
+module _ {c d : Command} (t : Tables) (rights : List ℕ) (w : TakesBack c d) (sound : Sound t) (f : First (onTables t rights c) 0) where
+  rows : Passed (onTables t rights c)
+  rows = first-done (onTables t rights c) refl f
 
   -- the command c leaves the live roles,
   same-live : (x : ℕ) → bit (t .live) x ≡ bit (after t c .live) x
@@ -84,18 +87,22 @@ module _ {c d : Command} (t : Tables) (w : TakesBack c d) (sound : Sound t) (f :
             (or-cases (bit (row old x) y) (pair c x y && p) (sym (new x y) ∙ in-table c s j p old x y h .2));
       }
 
+  on-edge : OnEdge c
+  on-edge = (omega (arith, w .adds), omega (arith, w .adds))
+
   -- and every part that c names stands.
   stands : (s j : ℕ) (p : Bool) (old : List ℕ) → p ≡ true → c .junior isIn row (tableAfter c s j p old) (c .role)
   stands s j p old h =
-      added c (role-lt c (rows .0)) (junior-lt c (rows .0) (omega (arith, w .adds))) s j p old (w .adds) ∙ or-right (bit (row old (c .role)) (c .junior)) p h
+      added c (role-lt c (rows .0)) (junior-lt c (rows .0) on-edge) s j p old (w .adds) ∙ or-right (bit (row old (c .role)) (c .junior)) p h
 
   -- Rows 2 and 3 say of d what they say of c,
   malformed : Malformed d → Malformed c
-  malformed (no-code l) = absurd (⊎-elim (λ (k : d .code < 1). omega (arith, w .removes)) (λ (k : 5 < d .code). omega (arith, w .removes)) l)
+  malformed (no-code l) = absurd (⊎-elim (λ (k : d .code < 1). omega (arith, w .removes)) (λ (k : 7 < d .code). omega (arith, w .removes)) l)
   malformed (no-actor l) = no-actor (omega (arith, w .actor))
   malformed (no-role l) = no-role (omega (arith, w .role))
-  malformed (no-junior n l) = no-junior (omega (arith, w .adds)) (omega (arith, w .junior))
-  malformed (no-kind n l) = no-kind (omega (arith, w .adds)) (subst (λ k. (k < 1) ⊎ (3 < k)) (w .kind) l)
+  malformed (no-junior n l) = no-junior (edge-is c .1 on-edge) (omega (arith, w .junior))
+  malformed (no-kind n l) = no-kind (edge-is c .1 on-edge) (subst (λ k. (k < 1) ⊎ (3 < k)) (w .kind) l)
+  malformed (no-rights n l) = absurd (omega (arith, w .removes, leb-true 6 (d .code) n))
 
   missing : Missing (after t c) d → Missing t c
   unfolding needed
@@ -116,6 +123,14 @@ module _ {c d : Command} (t : Tables) (w : TakesBack c d) (sound : Sound t) (f :
   }
   lacking (no-edge e _) = absurd (omega (arith, w .removes))
 
+  -- the actor derives all that it derived, so a right that it might use it still may,
+  kept-derived : {x y : ℕ} → Derives t x y → Derives (after t c) x y
+  unfolding after
+  kept-derived d = kept-derives same-live (grows _ _ _ (t .i) (i-entry t)) (grows _ _ _ (t .a) (a-entry t)) d
+
+  entitled : Entitled (Derives t) rights d → Entitled (Derives (after t c)) rights d
+  entitled h k e = may-use-more (λ x. kept-derived) (h k e)
+
   -- and the ends are in scope still, as the senior was
   in-scope : InScope (Scope t) c → InScope (Scope (after t c)) d
   unfolding after scoped strictly
@@ -127,9 +142,9 @@ module _ {c d : Command} (t : Tables) (w : TakesBack c d) (sound : Sound t) (f :
     strict = λ x h. let never : strictly d x ≡ false = rw (w .removes) in absurd (false-no never h);
   }
 
-  -- What was added where no part of it stood the same actor can take back at once.
-  pub back-granted : NoneStands t c → First (onTables (after t c) d) 0
-  back-granted free =
+  -- What was added where no part of it stood the same actor can take back at once, if it may use the right to.
+  pub back-granted : NoneStands t c → Entitled (Derives t) rights d → First (onTables (after t c) rights d) 0
+  back-granted free right =
       pass _ _ _ _ (λ m. rows .0 (malformed m)) (pass _ _ _ _ (λ m. rows .1 .0 (missing m))
-      (pass _ _ _ _ standing (pass _ _ _ _ lacking (pass _ _ _ _ (λ k. rows .1 .1 .1 .1 .0 (λ s. k (in-scope s)))
-      (subst (λ u. First (afterwards u d) 0) (sym (taken-back w t (sound .shaped) free)) (sound-passes t d sound (λ k. absurd (omega (arith, w .removes)))))))))
+      (pass _ _ _ _ standing (pass _ _ _ _ lacking (pass _ _ _ _ (λ k. k (entitled right)) (pass _ _ _ _ (λ k. rows .1 .1 .1 .1 .1 .0 (λ s. k (in-scope s)))
+      (subst (λ u. First (afterwards u d) 0) (sym (taken-back w t (sound .shaped) free)) (sound-passes t d sound (λ k. absurd (omega (arith, w .removes))))))))))

@@ -1,34 +1,36 @@
 -- The rows of the table of refusals, each from what the code tests. Assumes nothing.
-use mathlib.Core.Path.{_≡_, refl, sym, ap, _∙_, subst}
+use mathlib.Core.Path.{_≡_, refl, sym, ap, _∙_, subst, subst₂}
 use mathlib.Core.Bool.{Bool, true, false, not, _&&_, _||_, or-false, or-comm}
 use mathlib.Core.Logic.{_⊎_, inl, inr, ⊎-elim, _≢_, _↔_, Iff·trans, Iff·rfl}
-use mathlib.Core.List.{List, _++_}
+use mathlib.Core.List.{List, [], _++_}
 use Prim.Native.Nat.{ℕ, _^_, _≤_, _<_}
 use native.Mathlib.Decide.{ℕ-discrete}
 use native.Mathlib.Omega.{arith}
 use lib.Count.{trailingZeros}
 use lib.Dec.{eqb}
-use borrow.Author.Tests.{eqb-true, eqb-false, eq-eqb, ne-eqb, le-leb, not-true}
+use borrow.Author.Tests.{eqb-true, eqb-false, eq-eqb, ne-eqb, leb-true, le-leb, lt-leb, not-true}
 use Rattle.sets.specs.Sets.{bit, _isIn_, _areIn_, same?}
 use Rattle.sets.proofs.Bools.{true-or-false, or-cases, or-left, or-right, and-left, and-right, and-both, false-no, lt-or-ge}
 use Rattle.sets.proofs.Digits.{bit-zero}
 use Rattle.sets.proofs.Laws.{same-is, bit-lowest}
-use Rattle.hierarchy.specs.Tables.{Tables, row, hasI, hasA}
+use Rattle.hierarchy.specs.Tables.{Tables, Shaped, row, hasI, hasA}
 use Rattle.hierarchy.specs.First.{First}
 use Rattle.hierarchy.specs.Views.{AreViews}
 use Rattle.hierarchy.proofs.Checks.{and-is, or-is, if-is, not-is, eq-is, same-test}
 use Rattle.hierarchy.proofs.Derive.{edge-entry}
 use Rattle.hierarchy.proofs.FirstLaws.{hit, pass, none}
 use Rattle.hierarchy.proofs.ViewLaws.{admin-by}
-use Rattle.board.specs.Boards.{tablesOf, KeepsRight, SoundBoard}
-use Rattle.board.specs.Commands.{Malformed, asSenior, asJunior, needed, Missing, edgeKind, PartsStand, Standing, Lacking, scoped, strictly, InScope, Outside, plain, Names, unscoped, byScope, before, DecidedBy, Decided}
-use Rattle.board.specs.Commands.{Malformed.no-code, Malformed.no-actor, Malformed.no-role, Malformed.no-junior, Malformed.no-kind, Standing.role, Standing.edge, Lacking.no-part, Lacking.no-edge}
+use Rattle.board.specs.Boards.{tablesOf, boardOf, SoundBoard}
+use Rattle.board.specs.Commands.{Malformed, asSenior, asJunior, needed, Missing, edgeKind, PartsStand, Standing, Lacking, scoped, strictly, InScope, Outside, plain, Names, unscoped, byRights, byScope, before, DecidedBy, Decided}
+use Rattle.board.specs.Commands.{Malformed.no-code, Malformed.no-actor, Malformed.no-role, Malformed.no-junior, Malformed.no-kind, Malformed.no-rights, Standing.role, Standing.edge, Lacking.no-part, Lacking.no-edge}
 use Rattle.board.specs.Effects.{after}
-use Rattle.board.specs.Looks.{OutsideBy, late}
+use Rattle.board.specs.Rights.{Entitled, rightsAfter}
+use Rattle.board.specs.Looks.{OutsideBy, late, LateBy, lateOf, KeptOff, Remade}
 use Rattle.board.specs.declared.Board.{Board}
 use Rattle.board.specs.declared.Command.{Command}
 use Rattle.board.specs.declared.commands.Answer.{Answer}
-use Rattle.board.proofs.Blaming.{names-plain, names-six, strict-asked}
+use Rattle.board.proofs.Blaming.{OnEdge, edge-is, names-plain, names-six, strict-asked}
+use Rattle.board.proofs.Edits.{tables-stay}
 use Rattle.board.proofs.Rules.{stable, first-done, first-other, first-refused, first-next}
 
 -- ---- row 2
@@ -37,15 +39,16 @@ pub always : {P : Type 0} → P → (true ≡ true) ↔ P
 always p = (λ e. p, λ q. refl)
 
 -- what is in range is not malformed
-pub ranged : (c : Command) → 1 ≤ c .code → c .code ≤ 5 → c .actor ≤ 63 → c .role ≤ 63 → (3 ≤ c .code → c .junior ≤ 63)
-    → (3 ≤ c .code → (1 ≤ c .kind) × (c .kind ≤ 3)) → Malformed c → ⊥
-ranged c l h a r j k (no-code (inl w)) = omega arith
-ranged c l h a r j k (no-code (inr w)) = omega arith
-ranged c l h a r j k (no-actor w) = omega arith
-ranged c l h a r j k (no-role w) = omega arith
-ranged c l h a r j k (no-junior n w) = omega (arith, j n)
-ranged c l h a r j k (no-kind n (inl w)) = let q = k n in omega arith
-ranged c l h a r j k (no-kind n (inr w)) = let q = k n in omega arith
+pub ranged : (c : Command) → 1 ≤ c .code → c .code ≤ 7 → c .actor ≤ 63 → c .role ≤ 63 → (OnEdge c → c .junior ≤ 63)
+    → (OnEdge c → (1 ≤ c .kind) × (c .kind ≤ 3)) → (6 ≤ c .code → c .rights ≤ 31) → Malformed c → ⊥
+ranged c l h a r j k g (no-code (inl w)) = omega arith
+ranged c l h a r j k g (no-code (inr w)) = omega arith
+ranged c l h a r j k g (no-actor w) = omega arith
+ranged c l h a r j k g (no-role w) = omega arith
+ranged c l h a r j k g (no-junior n w) = omega (arith, j (edge-is c .0 n))
+ranged c l h a r j k g (no-kind n (inl w)) = let q = k (edge-is c .0 n) in omega arith
+ranged c l h a r j k g (no-kind n (inr w)) = let q = k (edge-is c .0 n) in omega arith
+ranged c l h a r j k g (no-rights n w) = omega (arith, g (leb-true 6 (c .code) n))
 
 -- and the other way round
 module _ (c : Command) (formed : Malformed c → ⊥) where
@@ -58,8 +61,14 @@ module _ (c : Command) (formed : Malformed c → ⊥) where
   pub role-lt : c .role < 64
   role-lt = ⊎-elim (λ l. l) (λ g. absurd (formed (no-role g))) (lt-or-ge (c .role) 64)
 
-  pub junior-lt : 3 ≤ c .code → c .junior < 64
-  junior-lt n = ⊎-elim (λ l. l) (λ g. absurd (formed (no-junior n g))) (lt-or-ge (c .junior) 64)
+  pub junior-lt : OnEdge c → c .junior < 64
+  junior-lt n = ⊎-elim (λ l. l) (λ g. absurd (formed (no-junior (edge-is c .1 n) g))) (lt-or-ge (c .junior) 64)
+
+  pub code-high : c .code ≤ 7
+  code-high = ⊎-elim (λ l. absurd (formed (no-code (inr l)))) (λ g. g) (lt-or-ge 7 (c .code))
+
+  pub rights-lt : 6 ≤ c .code → c .rights < 32
+  rights-lt n = ⊎-elim (λ l. l) (λ g. absurd (formed (no-rights (le-leb 6 (c .code) n) g))) (lt-or-ge (c .rights) 32)
 
   -- ---- row 6: whose scope is asked for
 
@@ -72,11 +81,15 @@ module _ (c : Command) (formed : Malformed c → ⊥) where
     unfolding scoped
     scoped-2 e = rw (e, bit-zero x)
 
-    pub scoped-3 : c .code ≢ 1 → c .code ≢ 2 → (same? (c .role) x || same? (c .junior) x) ≡ scoped c x
+    pub scoped-3 : OnEdge c → (same? (c .role) x || same? (c .junior) x) ≡ scoped c x
     unfolding scoped
-    scoped-3 n1 n2 =
-        let three : 3 ≤ c .code = omega (arith, code-low) in
-        rw (same-is (c .role) x role-lt, same-is (c .junior) x (junior-lt three), ne-eqb (c .code) 1 n1, le-leb 3 (c .code) three)
+    scoped-3 n =
+        rw (same-is (c .role) x role-lt, same-is (c .junior) x (junior-lt n), ne-eqb (c .code) 1 (λ e. omega (arith, n .0, e)), le-leb 3 (c .code) (n .0), le-leb (c .code) 5 (n .1))
+
+    pub scoped-6 : 6 ≤ c .code → same? (c .role) x ≡ scoped c x
+    unfolding scoped
+    scoped-6 n =
+        rw (same-is (c .role) x role-lt, ne-eqb (c .code) 1 (λ e. omega (arith, n, e)), le-leb 3 (c .code) (omega (arith, n)), lt-leb (c .code) 5 n) (sym (or-false (eqb x (c .role))))
 
     pub strictly-1 : c .code ≡ 1 → asJunior c x ≡ strictly c x
     unfolding strictly
@@ -100,9 +113,15 @@ module _ (c : Command) (formed : Malformed c → ⊥) where
     unfolding needed
     needed-2 e = rw (e, or-false (eqb x (c .role))) (or-comm (eqb x (c .role)) (eqb x (c .actor)))
 
-    needed-3 : c .code ≢ 1 → 3 ≤ c .code → ((eqb x (c .role) || eqb x (c .junior)) || eqb x (c .actor)) ≡ needed c x
+    needed-3 : OnEdge c → ((eqb x (c .role) || eqb x (c .junior)) || eqb x (c .actor)) ≡ needed c x
     unfolding needed
-    needed-3 n l = rw (ne-eqb (c .code) 1 n, le-leb 3 (c .code) l, le-leb 2 (c .code) (omega arith)) (or-comm (eqb x (c .role) || eqb x (c .junior)) (eqb x (c .actor)))
+    needed-3 n =
+        rw (ne-eqb (c .code) 1 (λ e. omega (arith, n .0, e)), le-leb 3 (c .code) (n .0), le-leb (c .code) 5 (n .1), le-leb 2 (c .code) (omega (arith, n .0))) (or-comm (eqb x (c .role) || eqb x (c .junior)) (eqb x (c .actor)))
+
+    needed-6 : 6 ≤ c .code → (eqb x (c .role) || eqb x (c .actor)) ≡ needed c x
+    unfolding needed
+    needed-6 n =
+        rw (ne-eqb (c .code) 1 (λ e. omega (arith, n, e)), le-leb 3 (c .code) (omega (arith, n)), lt-leb (c .code) 5 n, le-leb 2 (c .code) (omega (arith, n)), or-false (eqb x (c .role))) (or-comm (eqb x (c .role)) (eqb x (c .actor)))
 
     pub needed-is : ((scoped c x || strictly c x) || same? (c .actor) x) ≡ needed c x
     needed-is = ⊎-elim
@@ -112,9 +131,12 @@ module _ (c : Command) (formed : Malformed c → ⊥) where
         rw (← scoped-2 e, ← strictly-2 e, bit-zero x, same-is (c .actor) x actor-lt, same-is (c .role) x role-lt) (needed-2 e))
         (λ m.
         let n1 = eqb-false (c .code) 1 k in
-        let n2 = eqb-false (c .code) 2 m in
-        let three : 3 ≤ c .code = omega (arith, code-low) in
-        rw (← scoped-3 n1 n2, ← strictly-3 n1 n2, bit-zero x, or-false (same? (c .role) x || same? (c .junior) x), same-is (c .actor) x actor-lt, same-is (c .role) x role-lt, same-is (c .junior) x (junior-lt three)) (needed-3 n1 three))
+        let n2 = eqb-false (c .code) 2 m in ⊎-elim
+        (λ six. rw (← scoped-6 six, ← strictly-3 n1 n2, bit-zero x, or-false (same? (c .role) x), same-is (c .actor) x actor-lt, same-is (c .role) x role-lt) (needed-6 six))
+        (λ five.
+        let edge : OnEdge c = (omega (arith, code-low), five) in
+        rw (← scoped-3 edge, ← strictly-3 n1 n2, bit-zero x, or-false (same? (c .role) x || same? (c .junior) x), same-is (c .actor) x actor-lt, same-is (c .role) x role-lt, same-is (c .junior) x (junior-lt edge)) (needed-3 edge))
+        (lt-or-ge 5 (c .code)))
         (true-or-false (eqb (c .code) 2)))
         (true-or-false (eqb (c .code) 1))
 
@@ -247,54 +269,90 @@ pub decided-unsound : (b : Board) (c : Command) {m : Answer} → m ≡ plain 1 �
 decided-unsound b c e n =
     subst (λ (m : Answer). Decided b c m b) (sym e) (record { numbered = hit _ _ _ n; named = names-plain 1 (λ e. omega arith); done = λ z. absurd (omega (arith, z)); refused = λ _. refl })
 
-module _ (In : ℕ → ℕ → Type 0) (Blame : Answer → Type 0) (b : Board) (c : Command) where
+-- tables made anew, or left
+module _ {b : Board} {c : Command} {t : Tables} (is : t ≡ after (tablesOf b) c) {n : ℕ} where
+  pub remade-not : First (late t c) n → n ≢ 0 → Remade b c n b
+  remade-not f h = record { numbered = subst (λ (u : Tables). First (late u c) n) is f; done = λ z. absurd (h z); refused = λ _. refl }
+
+  pub remade-done : {derives derivers manager rights : List ℕ} → LateBy t c n derives derivers manager → n ≡ 0 → Remade b c 0 (boardOf (t .live) (t .i) (t .a) derives derivers manager rights)
+  remade-done l z = record { numbered = subst₂ (λ (u : Tables) (k : ℕ). First (late u c) k) is z (l .numbered); done = λ _. (is, l .right z); refused = λ h. absurd (h refl) }
+
+-- the rows afterwards, by the code
+pub late-low : (t : Tables) (c : Command) → c .code ≤ 5 → lateOf t c ≡ late t c
+late-low t c l = rw (le-leb (c .code) 5 l)
+
+pub late-high : (t : Tables) (c : Command) → 5 < c .code → lateOf t c ≡ []
+late-high t c h = rw (lt-leb (c .code) 5 h)
+
+module _ (Derive In : ℕ → ℕ → Type 0) (Blame : Answer → Type 0) (b : Board) (c : Command) where
+  abbrev early : List (ℕ × Type 0)
+  early = unscoped (tablesOf b) c
+
   abbrev rows : List (ℕ × Type 0)
-  rows = before In (tablesOf b) c
+  rows = before Derive In (tablesOf b) (b .rights) c
+
+  abbrev ends : List (ℕ × Type 0)
+  ends = lateOf (after (tablesOf b) c) c
 
   abbrev Outcome : Answer → Board → Type 0
-  Outcome = DecidedBy (rows ++ late (after (tablesOf b) c) c) Blame KeepsRight b c
+  Outcome = DecidedBy (rows ++ ends) Blame (KeptOff b c) b c
 
   abbrev Refused : Answer → Type 0
   Refused m = (x : Board) → x ≡ b → Outcome m x
 
-  -- a refusal gives the very board back
-  pub decided-early : (n : ℕ) → n ≢ 0 → First (unscoped (tablesOf b) c) n → {m : Answer} → m ≡ plain n → Refused m
-  decided-early n h f {m} is x e = subst (λ (m : Answer). Outcome m x) (sym is) (record {
-    numbered = first-refused rows _ n h (first-refused (unscoped (tablesOf b) c) (byScope In c) n h f);
-    named = names-plain n (first-other 6 (unscoped (tablesOf b) c) refl n f);
-    done = λ z. absurd (h z);
-    refused = λ _. e;
-  })
+  -- a refusal gives the very board back, and if it isn't 6 it names nobody
+  plainly : (n : ℕ) → n ≢ 0 → n ≢ 6 → First (rows ++ ends) n → {m : Answer} → m ≡ plain n → Refused m
+  plainly n h d f is x e = subst (λ (m : Answer). Outcome m x) (sym is) (record { numbered = f; named = names-plain n d; done = λ z. absurd (h z); refused = λ _. e })
 
-  module _ (k : ℕ) (short : k ≡ 0) (fine : First (unscoped (tablesOf b) c) k) where
-    past-unscoped : (n : ℕ) → First (byScope In c) n → First rows n
-    past-unscoped n f = first-next (unscoped (tablesOf b) c) (byScope In c) n (first-done (unscoped (tablesOf b) c) refl (subst (First (unscoped (tablesOf b) c)) short fine)) f
+  pub decided-early : (n : ℕ) → n ≢ 0 → First early n → {m : Answer} → m ≡ plain n → Refused m
+  decided-early n h f = plainly n h (first-other 6 early refl n f) (first-refused rows ends n h (first-refused early _ n h f))
 
-    pub decided-barred : {m : Answer} → m .number ≢ 0 → First (byScope In c) (m .number) × Names Blame m → Refused m
-    decided-barred {m} h f x e = record {
-      numbered = first-refused rows _ (m .number) h (past-unscoped (m .number) (f .0));
-      named = f .1;
-      done = λ z. absurd (h z);
-      refused = λ _. e;
-    }
+  module _ (k : ℕ) (short : k ≡ 0) (fine : First early k) where
+    past-early : (n : ℕ) → First (byRights Derive (b .rights) c ++ byScope In c) n → First rows n
+    past-early n f = first-next early _ n (first-done early refl (subst (First early) short fine)) f
 
-  module _ (k : ℕ) (short : k ≡ 0) (fine : First (unscoped (tablesOf b) c) k) (m : ℕ) (early : m ≡ 0) (scoped : First (byScope In c) m) (t : Tables) (is : t ≡ after (tablesOf b) c) where
-    passed : First rows m
-    passed = past-unscoped k short fine m scoped
+    pub decided-unentitled : (Entitled Derive (b .rights) c → ⊥) → {m : Answer} → m ≡ plain 13 → Refused m
+    decided-unentitled n = plainly 13 (λ e. omega arith) (λ e. omega arith) (first-refused rows ends 13 (λ e. omega arith) (past-early 13 (hit _ _ _ n)))
 
-    numbered : (n : ℕ) → First (late t c) n → First (rows ++ late (after (tablesOf b) c) c) n
-    numbered n f =
-        first-next rows (late (after (tablesOf b) c) c) n (first-done rows refl (subst (First rows) early passed))
-        (subst (λ (t : Tables). First (late t c) n) is f)
+    module _ (right : Entitled Derive (b .rights) c) where
+      past-rights : (n : ℕ) → First (byScope In c) n → First rows n
+      past-rights n f = past-early n (pass _ _ _ _ (λ k. k right) f)
 
-    pub decided-late : (n : ℕ) → n ≢ 0 → First (late t c) n → {m : Answer} → m ≡ plain n → Refused m
-    decided-late n h f is x e =
-        subst (λ (m : Answer). Outcome m x) (sym is) (record { numbered = numbered n f; named = names-plain n (first-other 6 (late t c) refl n f); done = λ z. absurd (h z); refused = λ _. e })
+      pub decided-barred : {m : Answer} → m .number ≢ 0 → First (byScope In c) (m .number) × Names Blame m → Refused m
+      decided-barred {m} h f x e = record {
+        numbered = first-refused rows ends (m .number) h (past-rights (m .number) (f .0));
+        named = f .1;
+        done = λ z. absurd (h z);
+        refused = λ _. e;
+      }
 
-    pub decided-done : (n : ℕ) → n ≡ 0 → First (late t c) n → {m : Answer} → m ≡ plain 0 → (x : Board) → tablesOf x ≡ t → KeepsRight x → Outcome m x
-    decided-done n z f plainly x e right = subst (λ (m : Answer). Outcome m x) (sym plainly) (record {
-      numbered = subst (First (rows ++ late (after (tablesOf b) c) c)) z (numbered n f);
-      named = names-plain 0 (λ q. omega arith);
-      done = λ _. record { tables-are = e ∙ is; fit = right };
-      refused = λ h. absurd (h refl);
-    })
+      module _ (j : ℕ) (clear : j ≡ 0) (scoped : First (byScope In c) j) where
+        past-all : (n : ℕ) → First ends n → First (rows ++ ends) n
+        past-all n f = first-next rows ends n (first-done rows refl (subst (First rows) clear (past-rights j scoped))) f
+
+        made : {m : Answer} → m ≡ plain 0 → First ends 0 → (x : Board) → tablesOf x ≡ after (tablesOf b) c → x .rights ≡ rightsAfter c (b .rights) → KeptOff b c x → Outcome m x
+        made is f x e r kept = subst (λ (m : Answer). Outcome m x) (sym is) (record {
+          numbered = past-all 0 f;
+          named = names-plain 0 (λ q. omega arith);
+          done = λ _. record { tables-are = e; rights-are = r; fit = kept };
+          refused = λ h. absurd (h refl);
+        })
+
+        -- commands 6 and 7 change the rights alone
+        pub decided-rights : 5 < c .code → Shaped (tablesOf b) → {m : Answer} → m ≡ plain 0 → (rights : List ℕ) → rights ≡ rightsAfter c (b .rights)
+            → Outcome m (boardOf (b .live) (b .i) (b .a) (b .derives) (b .derivers) (b .manager) rights)
+        decided-rights h shaped is rights r = made is (subst (λ (l : List (ℕ × Type 0)). First l 0) (sym (late-high _ c h)) none) _ (sym (tables-stay (tablesOf b) c shaped h)) r
+            (record { worked-out = λ l. absurd (omega (arith, h, l)); left = λ _. (refl, refl, refl) })
+
+        -- the others what is made anew besides
+        module _ (low : c .code ≤ 5) (n : ℕ) {y : Board} (remade : Remade b c n y) where
+          late-at : First ends n
+          late-at = subst (λ (l : List (ℕ × Type 0)). First l n) (sym (late-low _ c low)) (remade .numbered)
+
+          pub decided-late : n ≢ 0 → {m : Answer} → m ≡ plain n → Outcome m y
+          decided-late h is = plainly n h (first-other 6 (late (after (tablesOf b) c) c) refl n (remade .numbered)) (past-all n late-at) is y (remade .refused h)
+
+          pub decided-done : n ≡ 0 → {m : Answer} → m ≡ plain 0 → (rights : List ℕ) → rights ≡ rightsAfter c (b .rights)
+              → Outcome m (boardOf (y .live) (y .i) (y .a) (y .derives) (y .derivers) (y .manager) rights)
+          decided-done z is rights r = let d = remade .done z in
+              made is (subst (First ends) z late-at) _ (d .0) r (record { worked-out = λ _. d .1; left = λ h. absurd (omega (arith, h, low)) })

@@ -1,18 +1,19 @@
 -- On a sound board what is read off the values that it keeps is document 01's answer. Assumes nothing.
-use mathlib.Core.Path.{_≡_, refl, sym, subst}
+use mathlib.Core.Path.{_≡_, refl, sym, ap, _∙_, subst, subst₂}
 use mathlib.Core.Bool.{Bool, true, false, cond}
 use mathlib.Core.Logic.{_⊎_, ⊎-elim, _↔_, Iff·rfl, Iff·trans}
 use mathlib.Core.List.{List, [], _∷_}
-use Prim.Native.Nat.{ℕ}
+use Prim.Native.Nat.{ℕ, _<_}
 use native.Mathlib.Omega.{arith}
 use lib.Dec.{ltb}
 use borrow.Author.Tests.{ltb-true, ltb-false}
 use Rattle.sets.specs.Sets.{_isIn_}
+use Rattle.sets.proofs.Bools.{lt-or-ge}
 use Rattle.sets.proofs.Laws.{bit-lt}
-use Rattle.hierarchy.specs.Tables.{Live, row}
+use Rattle.hierarchy.specs.Tables.{Tables, Live, row}
 use Rattle.hierarchy.specs.Words.{Derives, Scope, Managed, Climb, Sound}
 use Rattle.hierarchy.specs.First.{First}
-use Rattle.hierarchy.specs.Views.{LiveLoops, ScopeBy, ManagerIs, managerAt, stepsUp}
+use Rattle.hierarchy.specs.Views.{LiveLoops, ScopeBy, RightValues, ManagerIs, managerAt, stepsUp}
 use Rattle.hierarchy.proofs.FirstLaws.{pass}
 use Rattle.hierarchy.proofs.Order.{joined-inward, joined-loops}
 use Rattle.hierarchy.proofs.Admin.{admin-live}
@@ -20,20 +21,24 @@ use Rattle.hierarchy.proofs.ClimbLaws.{climbs}
 use Rattle.hierarchy.proofs.ViewLaws.{scope-by}
 use Rattle.hierarchy.proofs.Bars.{out-by}
 use Rattle.hierarchy.proofs.ManagerLaws.{steps-up}
-use Rattle.board.specs.Boards.{tablesOf, SoundBoard}
+use Rattle.board.specs.Boards.{tablesOf, KeepsRight, SoundBoard}
 use Rattle.board.specs.Effects.{after}
+use Rattle.board.specs.Rights.{RightsFit, Entitled}
 use Rattle.board.specs.Commands.{InScope, before, Outside, afterwards, onTables, Decided}
 use Rattle.board.specs.Questions.{misnamed, Manages, DerivesAnswer, ScopeAnswer, ManagerAnswer, StepsAnswer}
 use Rattle.board.specs.Questions.{refusals as questionRefusals}
-use Rattle.board.specs.Looks.{Torn, late, managerFrom, DecidedOff, DerivesOff, ScopeOff, ManagerOff, StepsOff}
+use Rattle.board.specs.Looks.{DerivesBy, Torn, late, lateOf, beforeOff, managerFrom, DecidedOff, DerivesOff, ScopeOff, ManagerOff, StepsOff}
 use Rattle.board.specs.declared.Board.{Board}
 use Rattle.board.specs.declared.Command.{Command}
 use Rattle.board.specs.declared.commands.Answer.{Answer}
 use Rattle.board.specs.declared.questions.Manager.{Manager}
 use Rattle.board.specs.declared.questions.Manager.the-variants.{Role, Nobody}
-use Rattle.board.proofs.Rules.{Passed, first-alike, first-without}
+use Rattle.board.proofs.Rules.{Passed, first-done, first-none, first-alike, first-without}
 use Rattle.board.proofs.Asking.{asked, answer-as}
-use Rattle.board.proofs.Trying.{in-scope-alike}
+use Rattle.board.proofs.Edits.{tables-stay}
+use Rattle.board.proofs.Using.{entitled-alike, rights-fit}
+use Rattle.board.proofs.Trying.{in-scope-alike, late-low, late-high}
+use Rattle.board.proofs.TakingBack.{sound-passes}
 use Rattle.board.proofs.Blaming.{blames-alike}
 use Rattle.board.proofs.SoundAfter.{joined-after, sound-after}
 
@@ -65,7 +70,13 @@ module _ {b : Board} (s : SoundBoard b) where
     named = record { six = λ e. blames-alike c (scope-kept (c .actor)) (λ x k w. out-by (s .right .views) .0) (d .named .six e); other = d .named .other };
     done = λ z. let m = d .done z in record {
       tables-are = m .tables-are;
-      fit = record { sound = subst Sound (sym (m .tables-are)) (sound-after (tablesOf b) c (s .sound) (subst (First (onTables (tablesOf b) c)) z rows)); right = m .fit };
+      rights-are = m .rights-are;
+      fit = record {
+        sound = subst Sound (sym (m .tables-are)) (sound-after (tablesOf b) (b .rights) c (s .sound) (passes z));
+        right = ⊎-elim (λ high. stays (m .tables-are) (m .fit .left high) high) (m .fit .worked-out) (lt-or-ge 5 (c .code));
+        rightful = let p = first-done _ refl (passes z) in
+            subst₂ RightsFit (ap (λ (t : Tables). t .live) (sym (m .tables-are))) (sym (m .rights-are)) (rights-fit (tablesOf b) (b .rights) c (s .rightful) (p .0) (p .1 .0));
+      };
     };
     refused = d .refused;
   }
@@ -78,8 +89,19 @@ module _ {b : Board} (s : SoundBoard b) where
       n : ℕ
       n = m .number
 
+      right-row : (Entitled (DerivesBy (b .derives)) (b .rights) c → ⊥) ↔ (Entitled (Derives (tablesOf b)) (b .rights) c → ⊥)
+      right-row =
+          let e = entitled-alike (b .rights) c (λ x. derives-kept (c .actor) x) in
+          (λ h k. h (e .1 k), λ h k. h (e .0 k))
+
+      -- what commands 6 and 7 leave was right before
+      stays : tablesOf board ≡ after (tablesOf b) c → (board .derives ≡ b .derives) × (board .derivers ≡ b .derivers) × (board .manager ≡ b .manager) → 5 < c .code → KeepsRight board
+      stays e q high =
+          subst (λ (t : Tables). RightValues t (board .derives) (board .derivers) (board .manager)) (sym (e ∙ tables-stay (tablesOf b) c (s .sound .shaped) high))
+          (rw (q .0, q .1, q .2) (s .right))
+
       -- a sound board's entries still join live roles once the rows before are passed
-      whole : Passed (before (ScopeBy (b .derives) (b .derivers)) (tablesOf b) c) → First (late (after (tablesOf b) c) c) n → First (afterwards (after (tablesOf b) c) c) n
+      whole : Passed (beforeOff b c) → First (late (after (tablesOf b) c) c) n → First (afterwards (after (tablesOf b) c) c) n
       whole p h =
           let t = after (tablesOf b) c in
           let joined = joined-after (tablesOf b) c (s .sound .joined) (p .0) (p .1 .0) in
@@ -87,11 +109,24 @@ module _ {b : Board} (s : SoundBoard b) where
           first-alike rows (afterwards t c) [] [] n (refl, joined-loops joined, (refl, Iff·rfl, (refl, Iff·rfl, tt))) (λ _ f. f)
           (first-without 1 _ rows n (λ (k : Torn t). k .outward (joined-inward _ joined)) h)
 
-      rows : First (onTables (tablesOf b) c) n
+      -- and where a command leaves the tables, the rows afterwards say nothing new
+      ends : Passed (beforeOff b c) → First (lateOf (after (tablesOf b) c) c) n → First (afterwards (after (tablesOf b) c) c) n
+      ends p h = ⊎-elim
+          (λ high.
+          let z = first-none (subst (λ (l : List (ℕ × Type 0)). First l n) (late-high _ c high) h) in
+          subst₂ (λ (t : Tables) (k : ℕ). First (afterwards t c) k) (sym (tables-stay (tablesOf b) c (s .sound .shaped) high)) (sym z)
+          (sound-passes (tablesOf b) c (s .sound) (λ e. omega (arith, high, e))))
+          (λ low. whole p (subst (λ (l : List (ℕ × Type 0)). First l n) (late-low _ c low) h))
+          (lt-or-ge 5 (c .code))
+
+      rows : First (onTables (tablesOf b) (b .rights) c) n
       rows =
-          first-alike (before (ScopeBy (b .derives) (b .derivers)) (tablesOf b) c) (before (Scope (tablesOf b)) (tablesOf b) c)
-          (late (after (tablesOf b) c) c) (afterwards (after (tablesOf b) c) c) n
-          (refl, Iff·rfl, (refl, Iff·rfl, (refl, Iff·rfl, (refl, Iff·rfl, (refl, scope-row, tt))))) whole (d .numbered)
+          first-alike (beforeOff b c) (before (Derives (tablesOf b)) (Scope (tablesOf b)) (tablesOf b) (b .rights) c)
+          (lateOf (after (tablesOf b) c) c) (afterwards (after (tablesOf b) c) c) n
+          (refl, Iff·rfl, (refl, Iff·rfl, (refl, Iff·rfl, (refl, Iff·rfl, (refl, right-row, (refl, scope-row, tt)))))) ends (d .numbered)
+
+      passes : n ≡ 0 → First (onTables (tablesOf b) (b .rights) c) 0
+      passes z = subst (First (onTables (tablesOf b) (b .rights) c)) z rows
 
   -- ---- the questions
 

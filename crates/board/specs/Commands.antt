@@ -1,5 +1,5 @@
--- Document 01's table of refusals for a command, row by row, with rows 2, 4 and 5 as request 2 has them, and what a command answers: beside
--- the number, by request 3, who offends and why.
+-- Document 01's table of refusals for a command, row by row, with rows 2, 4 and 5 as request 2 has them and row 13 by request 4, and what a
+-- command answers: beside the number, by request 3, who offends and why.
 use mathlib.Core.Path.{_≡_}
 use mathlib.Core.Bool.{Bool, true, false, _&&_, _||_}
 use mathlib.Core.Logic.{_⊎_, _≢_}
@@ -8,10 +8,11 @@ use Prim.Native.Nat.{ℕ, _^_, _≤_, _<_}
 use lib.Dec.{eqb, leb}
 use Rattle.sets.specs.Sets.{bit, _isIn_}
 use Rattle.hierarchy.specs.Tables.{Tables, row, kind, hasI, hasA}
-use Rattle.hierarchy.specs.Words.{Scope, OutOfScope, Administrator, Loops, Managed}
+use Rattle.hierarchy.specs.Words.{Derives, Scope, OutOfScope, Administrator, Loops, Managed}
 use Rattle.hierarchy.specs.First.{First}
 use Rattle.board.specs.Boards.{tablesOf, SoundBoard}
 use Rattle.board.specs.Effects.{after}
+use Rattle.board.specs.Rights.{Entitled, rightsAfter}
 use Rattle.board.specs.declared.Board.{Board}
 use Rattle.board.specs.declared.Command.{Command}
 use Rattle.board.specs.declared.commands.Answer.{Answer}
@@ -19,8 +20,12 @@ use Rattle.board.specs.declared.commands.Answer.{Answer}
 -- ---- the fields that a command uses
 
 -- commands 3, 4 and 5 name a senior (in `role`), a junior and a kind
-abbrev pub NamesEdge : Command → Type 0
-NamesEdge c = 3 ≤ c .code
+abbrev pub namesEdge : Command → Bool
+namesEdge c = leb 3 (c .code) && leb (c .code) 5
+
+-- commands 6 and 7 name a role and rights
+abbrev pub namesRights : Command → Bool
+namesRights c = leb 6 (c .code)
 
 -- no set that it names has a member above 63: its type says so of each command of the code
 pub record Fits (c : Command) : Type 0 where
@@ -32,11 +37,12 @@ pub record Fits (c : Command) : Type 0 where
 -- ---- row 2: a number out of its range, in a field that is used
 
 pub data Malformed (c : Command) : Type 0 where
-  no-code : (c .code < 1) ⊎ (5 < c .code) → Malformed c
+  no-code : (c .code < 1) ⊎ (7 < c .code) → Malformed c
   no-actor : 63 < c .actor → Malformed c
   no-role : 63 < c .role → Malformed c
-  no-junior : NamesEdge c → 63 < c .junior → Malformed c
-  no-kind : NamesEdge c → (c .kind < 1) ⊎ (3 < c .kind) → Malformed c
+  no-junior : namesEdge c ≡ true → 63 < c .junior → Malformed c
+  no-kind : namesEdge c ≡ true → (c .kind < 1) ⊎ (3 < c .kind) → Malformed c
+  no-rights : namesRights c ≡ true → 31 < c .rights → Malformed c
 
 -- ---- row 3: a role that must exist isn't live
 
@@ -52,7 +58,7 @@ unfoldable pub needed : Command → ℕ → Bool
 needed c x =
     eqb x (c .actor)
     || ((eqb (c .code) 1 && (asSenior c x || asJunior c x))
-    || ((leb 2 (c .code) && eqb x (c .role)) || (leb 3 (c .code) && eqb x (c .junior))))
+    || ((leb 2 (c .code) && eqb x (c .role)) || (namesEdge c && eqb x (c .junior))))
 
 -- one that must exist and does not
 pub record Missing (t : Tables) (c : Command) : Type 0 where
@@ -83,9 +89,9 @@ pub data Lacking (t : Tables) (c : Command) : Type 0 where
 
 -- ---- row 6: the column "Scope condition before"
 
--- who must be in the actor's scope: command 1's seniors, the two ends of an edge
+-- who must be in the actor's scope: command 1's seniors, the two ends of an edge, the role whose rights are given or taken
 unfoldable pub scoped : Command → ℕ → Bool
-scoped c x = (eqb (c .code) 1 && asSenior c x) || (leb 3 (c .code) && (eqb x (c .role) || eqb x (c .junior)))
+scoped c x = (eqb (c .code) 1 && asSenior c x) || ((leb 3 (c .code) && eqb x (c .role)) || (namesEdge c && eqb x (c .junior)))
 
 -- who must be in its strict scope: command 1's juniors, command 2's role
 unfoldable pub strictly : Command → ℕ → Bool
@@ -104,7 +110,7 @@ pub record InScope (In : ℕ → ℕ → Type 0) (c : Command) : Type 0 where
 abbrev pub conditions : Command → List ((ℕ → Bool) × Bool)
 conditions c =
     (λ x. leb 2 (c .code) && eqb x (c .role), eqb (c .code) 2)
-    ∷ (λ x. leb 3 (c .code) && eqb x (c .junior), false)
+    ∷ (λ x. namesEdge c && eqb x (c .junior), false)
     ∷ (λ x. eqb (c .code) 1 && bit (c .«a_seniors») x, false)
     ∷ (λ x. eqb (c .code) 1 && bit (c .«i_seniors») x, false)
     ∷ (λ x. eqb (c .code) 1 && bit (c .«a_juniors») x, true)
@@ -166,12 +172,15 @@ unscoped t c =
     ∷ (5, Lacking t c)
     ∷ []
 
--- by what scope means there
+-- by what deriving and scope mean there: no right, and out of scope
+abbrev pub byRights : (ℕ → ℕ → Type 0) → List ℕ → Command → List (ℕ × Type 0)
+byRights Derive rights c = (13, (Entitled Derive rights c → ⊥)) ∷ []
+
 abbrev pub byScope : (ℕ → ℕ → Type 0) → Command → List (ℕ × Type 0)
 byScope In c = (6, (InScope In c → ⊥)) ∷ []
 
-abbrev pub before : (ℕ → ℕ → Type 0) → Tables → Command → List (ℕ × Type 0)
-before In t c = unscoped t c ++ byScope In c
+abbrev pub before : (Derive In : ℕ → ℕ → Type 0) → Tables → List ℕ → Command → List (ℕ × Type 0)
+before Derive In t rights c = unscoped t c ++ byRights Derive rights c ++ byScope In c
 
 -- on the tables that the command would leave: past loops, and all
 abbrev pub pastLoops : Tables → Command → List (ℕ × Type 0)
@@ -183,19 +192,20 @@ pastLoops t c =
 abbrev pub afterwards : Tables → Command → List (ℕ × Type 0)
 afterwards t c = (7, Loops t) ∷ pastLoops t c
 
--- document 01's rows past the first, with its own word for scope
-abbrev pub onTables : Tables → Command → List (ℕ × Type 0)
-onTables t c = before (Scope t) t c ++ afterwards (after t c) c
+-- document 01's rows past the first, with its own words for deriving and scope
+abbrev pub onTables : Tables → List ℕ → Command → List (ℕ × Type 0)
+onTables t rights c = before (Derives t) (Scope t) t rights c ++ afterwards (after t c) c
 
 -- and an unsound board refused before all others
 abbrev pub refusals : Board → Command → List (ℕ × Type 0)
-refusals b c = (1, (SoundBoard b → ⊥)) ∷ onTables (tablesOf b) c
+refusals b c = (1, (SoundBoard b → ⊥)) ∷ onTables (tablesOf b) (b .rights) c
 
 -- ---- what a command answers: the number by the table, and who offends; done makes the change, a refusal leaves the very board
 
--- The change: the tables are those afterwards, and the board is as a board has to be, which settles the values it keeps.
+-- The change: tables and rights are those afterwards, and the board is as a board has to be, which settles the values it keeps.
 pub record Made (Fit : Board → Type 0) (b : Board) (c : Command) (board : Board) : Type 0 where
   pub tables-are : tablesOf board ≡ after (tablesOf b) c
+  pub rights-are : board .rights ≡ rightsAfter c (b .rights)
   pub fit : Fit board
 
 pub record DecidedBy (rules : List (ℕ × Type 0)) (Blame : Answer → Type 0) (Fit : Board → Type 0) (b : Board) (c : Command) (answer : Answer) (board : Board) : Type 0 where

@@ -41,7 +41,7 @@ listOf (suc n) f = f 0 ∷ listOf n (λ k. f (suc k))
 unfoldable pub tableAfter : Command → ℕ → ℕ → Bool → List ℕ → List ℕ
 tableAfter c seniors juniors part t = listOf 64 (λ x. setOf (λ y. entry c seniors juniors part (bit (row t x) y) x y))
 
--- The tables afterwards. What a board keeps besides follows from them, so no line has to name it.
+-- The tables afterwards, which commands 6 and 7 leave. What a board keeps besides follows from them, so no line has to name it.
 unfoldable pub after : Tables → Command → Tables
 after t c = tables
     (setOf (λ x. lives c (bit (t .live) x) x))

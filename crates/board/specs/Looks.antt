@@ -2,10 +2,10 @@
 -- `Rattle.board.proofs.Viewing` says that on a sound board they are document 01's.
 use mathlib.Core.Path.{_≡_}
 use mathlib.Core.Bool.{Bool, false, cond}
-use mathlib.Core.Logic.{_⊎_}
-use mathlib.Core.List.{List, _∷_, _++_}
-use Prim.Native.Nat.{ℕ}
-use lib.Dec.{ltb}
+use mathlib.Core.Logic.{_⊎_, _≢_}
+use mathlib.Core.List.{List, [], _∷_, _++_}
+use Prim.Native.Nat.{ℕ, _≤_, _<_}
+use lib.Dec.{leb, ltb}
 use Rattle.sets.specs.Sets.{_isIn_}
 use Rattle.hierarchy.specs.Tables.{Tables, row}
 use Rattle.hierarchy.specs.First.{First}
@@ -20,7 +20,10 @@ use Rattle.board.specs.declared.commands.Answer.{Answer}
 use Rattle.board.specs.declared.questions.Manager.{Manager}
 use Rattle.board.specs.declared.questions.Manager.the-variants.{Role, Nobody}
 
--- ---- a command: document 01's rows, with scope read off the two tables
+-- ---- a command: document 01's rows, with deriving and scope read off the two tables
+
+abbrev pub DerivesBy : List ℕ → ℕ → ℕ → Type 0
+DerivesBy down a x = x isIn row down a
 
 -- The tables that the command would leave show that the board handed in was not sound: the live roles are not in order, and one has a
 -- junior that isn't live. Soundness is not looked at before, and this row is tried where the work comes to a halt on it.
@@ -50,9 +53,25 @@ pub record LateBy (t : Tables) (c : Command) (number : ℕ) (derives derivers ma
 abbrev pub BlamesBy : List ℕ → List ℕ → Command → Answer → Type 0
 BlamesBy down up = Blames (ScopeBy down up) (OutOfScopeBy down up)
 
+-- tables and what is kept made anew, unless a row afterwards holds
+pub record Remade (b : Board) (c : Command) (number : ℕ) (board : Board) : Type 0 where
+  pub numbered : First (late (after (tablesOf b) c) c) number
+  pub done : number ≡ 0 → (tablesOf board ≡ after (tablesOf b) c) × KeepsRight board
+  pub refused : number ≢ 0 → board ≡ b
+
+-- The rows afterwards are tried where a command may change the tables: 6 and 7 don't, and leave what the board keeps as it is.
+abbrev pub lateOf : Tables → Command → List (ℕ × Type 0)
+lateOf t c = cond (leb (c .code) 5) (late t c) []
+
+pub record KeptOff (b : Board) (c : Command) (board : Board) : Type 0 where
+  pub worked-out : c .code ≤ 5 → KeepsRight board
+  pub left : 5 < c .code → (board .derives ≡ b .derives) × (board .derivers ≡ b .derivers) × (board .manager ≡ b .manager)
+
+abbrev pub beforeOff : Board → Command → List (ℕ × Type 0)
+beforeOff b c = before (DerivesBy (b .derives)) (ScopeBy (b .derives) (b .derivers)) (tablesOf b) (b .rights) c
+
 abbrev pub DecidedOff : Board → Command → Answer → Board → Type 0
-DecidedOff b c =
-    DecidedBy (before (ScopeBy (b .derives) (b .derivers)) (tablesOf b) c ++ late (after (tablesOf b) c) c) (BlamesBy (b .derives) (b .derivers) c) KeepsRight b c
+DecidedOff b c = DecidedBy (beforeOff b c ++ lateOf (after (tablesOf b) c) c) (BlamesBy (b .derives) (b .derivers) c) (KeptOff b c) b c
 
 -- ---- the questions: their rows 2 and 3, and the value read off what is kept
 

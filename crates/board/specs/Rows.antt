@@ -1,10 +1,12 @@
--- What the functions on one lent table promise each other. No promise of a public function speaks of these.
+-- What the functions on one lent table, or on a lent row of rights, promise each other. No promise of a public function speaks of these.
 use mathlib.Core.Path.{_≡_}
 use mathlib.Core.Bool.{Bool, cond, not, _&&_}
 use mathlib.Core.List.{List}
 use Prim.Native.Nat.{ℕ, _<_}
-use Rattle.sets.specs.Sets.{bit, same?}
+use lib.ListN.{length}
+use Rattle.sets.specs.Sets.{bit, _isIn_, same?}
 use Rattle.hierarchy.specs.Tables.{row, IsTable}
+use Rattle.board.specs.Rights.{rightsOf}
 
 -- t has become r: s is the row of x now, and the others are as they were
 pub record RowSet (t : List ℕ) (x s : ℕ) (r : List ℕ) : Type 0 where
@@ -20,3 +22,12 @@ pub record Entered (t : List ℕ) (seniors junior : ℕ) (part : Bool) (r : List
 pub record Left (t : List ℕ) (junior : ℕ) (r : List ℕ) : Type 0 where
   pub whole : IsTable r
   pub entries : (x y : ℕ) → x < 64 → bit (row r x) y ≡ (bit (row t x) y && not (same? junior y))
+
+-- 64 bytes: the type says so of a row by value
+pub record AreBytes (t : List ℕ) : Type 0 where
+  pub rows : length t ≡ 64
+  pub fits : (x : ℕ) → row t x < 256
+
+-- one of these roles holds the right k
+abbrev pub HeldAmong : List ℕ → ℕ → ℕ → Type 0
+HeldAmong rights roles k = (x : ℕ) × (x isIn roles) × (k isIn rightsOf rights x)

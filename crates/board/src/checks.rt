@@ -1,10 +1,11 @@
-// Whether a board is sound: its tables are, and the values that it keeps are theirs.
+// Whether a board is sound: its tables are, the values that it keeps are theirs, and only its live roles hold rights.
 ghost use mathlib.Core.Path.{_≡_};
 ghost use mathlib.Core.Bool.{true};
 ghost use mathlib.Core.Logic.{_↔_};
 ghost use lib.ListN.{length};
 ghost use Rattle.board.specs.Boards.{boardOf, SoundBoard};
 use crate::Board;
+use crate::rights::rightful;
 use crate::shape::whole;
 use crate::shape::whole_row;
 use hierarchy::entries::joined;
@@ -47,14 +48,18 @@ pub fn sound_of<'t>(
     derives: &'t [u64; 64],
     derivers: &'t [u64; 64],
     manager: &'t [u8; 64],
+    rights: &'t [u8; 64],
 ) -> bool
-    ensures { λ r. ⌜ (r ≡ true) ↔ SoundBoard (boardOf live (now (i .entry)) (now (a .entry)) (now (derives .entry)) (now (derivers .entry)) (now (manager .entry))) ⌝ }
+    ensures { λ r. ⌜ (r ≡ true) ↔ SoundBoard (boardOf live (now (i .entry)) (now (a .entry)) (now (derives .entry)) (now (derivers .entry)) (now (manager .entry)) (now (rights .entry))) ⌝ }
 {
     whole(*i);
     whole(*a);
     whole(*derives);
     whole(*derivers);
     whole_row(*manager);
+    if !rightful(live, rights) {
+        return false;
+    }
     if !has(live, 0) {
         return false;
     }
@@ -74,5 +79,13 @@ pub fn sound_of<'t>(
 pub fn sound(b: Board) -> bool
     ensures { λ r. ⌜ (r ≡ true) ↔ SoundBoard b ⌝ }
 {
-    sound_of(b.live, &b.i, &b.a, &b.derives, &b.derivers, &b.manager)
+    sound_of(
+        b.live,
+        &b.i,
+        &b.a,
+        &b.derives,
+        &b.derivers,
+        &b.manager,
+        &b.rights,
+    )
 }

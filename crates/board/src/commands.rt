@@ -1,9 +1,10 @@
-// The five commands. `step` decides one: it tries the refusals of document 01 in their order, first on the board it is handed, then
+// The seven commands. `step` decides one: it tries the refusals of document 01 in their order, first on the board it is handed, then
 // on the tables the command would leave, and gives back its answer and the board, changed where the number is 0. `decide` is the same
 // for a caller that has just found the board sound: it takes what the board keeps as it stands there.
 ghost use mathlib.Core.Path.{_≡_};
 ghost use mathlib.Core.Bool.{true, false, not, _&&_, _||_};
 ghost use mathlib.Core.Logic.{_↔_, _≢_};
+ghost use mathlib.Core.List.{List};
 ghost use Prim.Native.Nat.{ℕ, _<_};
 ghost use lib.Dec.{eqb};
 ghost use Rattle.sets.specs.Sets.{bit, _isIn_, LowestRole};
@@ -11,13 +12,15 @@ ghost use Rattle.hierarchy.specs.First.{First};
 ghost use Rattle.hierarchy.specs.Tables.{tables, row, IsTable, hasI, hasA};
 ghost use Rattle.hierarchy.specs.Views.{ScopeBy};
 ghost use Rattle.board.specs.Boards.{boardOf};
-ghost use Rattle.board.specs.Looks.{OutOfOrder, OutsideBy, LateBy, BlamesBy, DecidedOff};
+ghost use Rattle.board.specs.Looks.{OutOfOrder, OutsideBy, LateBy, Remade, BlamesBy, DecidedOff};
 ghost use Rattle.board.specs.Commands.{Malformed, needed, scoped, strictly, InScope, conditions, Offends, plain, Names, unscoped, byScope, Decided};
 use crate::Board;
 use crate::Command;
 use crate::checks::sound_of;
 use crate::effects::change;
 use crate::effects::has_part;
+use crate::rights::entitled;
+use crate::rights::hand;
 use crate::shape::whole;
 use hierarchy::scopes::bars;
 use hierarchy::scopes::scope;
@@ -79,7 +82,7 @@ fn malformed(c: Command) -> bool
     if code < 1 {
         return true;
     }
-    if code > 5 {
+    if code > 7 {
         return true;
     }
     if c.actor > 63 {
@@ -91,6 +94,9 @@ fn malformed(c: Command) -> bool
     if code < 3 {
         return false;
     }
+    if 5 < code {
+        return c.rights > 31;
+    }
     if c.junior > 63 {
         return true;
     }
@@ -100,7 +106,7 @@ fn malformed(c: Command) -> bool
     c.kind > 3
 }
 
-// Who must be in the actor's scope: command 1's seniors, the two ends of an edge.
+// Who must be in the actor's scope: command 1's seniors, the two ends of an edge, the role whose rights are given or taken.
 fn in_scope(c: Command) -> u64
     requires { ⌜ (Malformed c → ⊥) ⌝ }
     ensures { λ r. ⌜ ((x : ℕ) → bit r x ≡ scoped c x) ⌝ }
@@ -111,7 +117,11 @@ fn in_scope(c: Command) -> u64
     if c.code == 2 {
         return 0;
     }
-    with(single(c.role as usize), c.junior as usize)
+    let role = single(c.role as usize);
+    if 5 < c.code {
+        return role;
+    }
+    with(role, c.junior as usize)
 }
 
 // Who must be in its strict scope: command 1's juniors, command 2's role.
@@ -238,7 +248,7 @@ fn offending_member(all: u64, c: Command) -> Offender
     lowest_of(minus(c.i_juniors, strict), true)
 }
 
-// Who offends first of a role to be removed, or of the ends of an edge.
+// Who offends first of a role named by itself, or of the ends of an edge.
 fn offending_end(all: u64, c: Command) -> Offender
     requires { ⌜ (Malformed c → ⊥) × ((c .code ≢ 1) × (InScope (λ a x. x isIn all) c → ⊥)) ⌝ }
     ensures { λ r. ⌜ (r .role < 64) × Offends (λ a x. x isIn all) (c .actor) (conditions c) (r .role) (r .strict) ⌝ }
@@ -380,8 +390,9 @@ fn refused_after<'t>(
     number
 }
 
-// One command on the board of these parts, whose own sets say what scope is: done changes them, and a refusal leaves all six.
-pub fn decide(
+// Makes the change to tables and to what follows from them, unless a refusal of the tables that the command would leave forbids it: then
+// all six stay.
+fn remake(
     live: &mut u64,
     i: &mut [u64; 64],
     a: &mut [u64; 64],
@@ -389,17 +400,9 @@ pub fn decide(
     derivers: &mut [u64; 64],
     manager: &mut [u8; 64],
     c: Command,
-) -> Answer
-    ensures { λ r. ⌜ DecidedOff (boardOf (now (live .entry)) (now (i .entry)) (now (a .entry)) (now (derives .entry)) (now (derivers .entry)) (now (manager .entry))) c r (boardOf (now (live .exit)) (now (i .exit)) (now (a .exit)) (now (derives .exit)) (now (derivers .exit)) (now (manager .exit))) ⌝ }
+) -> u8
+    ensures { λ r. ⌜ ((rights : List ℕ) → Remade (boardOf (now (live .entry)) (now (i .entry)) (now (a .entry)) (now (derives .entry)) (now (derivers .entry)) (now (manager .entry)) rights) c r (boardOf (now (live .exit)) (now (i .exit)) (now (a .exit)) (now (derives .exit)) (now (derivers .exit)) (now (manager .exit)) rights)) ⌝ }
 {
-    let early = refused_before(*live, i, a, c);
-    if early != 0 {
-        return Answer::plain(early);
-    }
-    let barred = refused_by_scope(derives, derivers, c);
-    if barred.number != 0 {
-        return barred;
-    }
     whole(*i);
     whole(*a);
     let mut new_i = *i;
@@ -418,7 +421,7 @@ pub fn decide(
         &mut managers,
     );
     if late != 0 {
-        return Answer::plain(late);
+        return late;
     }
     *live = new_live;
     *i = new_i;
@@ -426,6 +429,45 @@ pub fn decide(
     *derives = down;
     *derivers = up;
     *manager = managers;
+    0
+}
+
+// One command on the board of these parts, whose own sets say what deriving and scope are: done changes them, and a refusal leaves all
+// seven. Commands 6 and 7 leave the tables, so nothing is worked out for them.
+pub fn decide(
+    live: &mut u64,
+    i: &mut [u64; 64],
+    a: &mut [u64; 64],
+    derives: &mut [u64; 64],
+    derivers: &mut [u64; 64],
+    manager: &mut [u8; 64],
+    rights: &mut [u8; 64],
+    c: Command,
+) -> Answer
+    ensures { λ r. ⌜ DecidedOff (boardOf (now (live .entry)) (now (i .entry)) (now (a .entry)) (now (derives .entry)) (now (derivers .entry)) (now (manager .entry)) (now (rights .entry))) c r (boardOf (now (live .exit)) (now (i .exit)) (now (a .exit)) (now (derives .exit)) (now (derivers .exit)) (now (manager .exit)) (now (rights .exit))) ⌝ }
+{
+    let early = refused_before(*live, i, a, c);
+    if early != 0 {
+        return Answer::plain(early);
+    }
+    if !entitled(derives, rights, c) {
+        return Answer::plain(13);
+    }
+    let barred = refused_by_scope(derives, derivers, c);
+    if barred.number != 0 {
+        return barred;
+    }
+    if 5 < c.code {
+        whole(*i);
+        whole(*a);
+        hand(rights, c);
+        return Answer::plain(0);
+    }
+    let late = remake(live, i, a, derives, derivers, manager, c);
+    if late != 0 {
+        return Answer::plain(late);
+    }
+    hand(rights, c);
     Answer::plain(0)
 }
 
@@ -437,14 +479,15 @@ pub fn settle(
     derives: &mut [u64; 64],
     derivers: &mut [u64; 64],
     manager: &mut [u8; 64],
+    rights: &mut [u8; 64],
     c: Command,
 ) -> Answer
-    ensures { λ r. ⌜ Decided (boardOf (now (live .entry)) (now (i .entry)) (now (a .entry)) (now (derives .entry)) (now (derivers .entry)) (now (manager .entry))) c r (boardOf (now (live .exit)) (now (i .exit)) (now (a .exit)) (now (derives .exit)) (now (derivers .exit)) (now (manager .exit))) ⌝ }
+    ensures { λ r. ⌜ Decided (boardOf (now (live .entry)) (now (i .entry)) (now (a .entry)) (now (derives .entry)) (now (derivers .entry)) (now (manager .entry)) (now (rights .entry))) c r (boardOf (now (live .exit)) (now (i .exit)) (now (a .exit)) (now (derives .exit)) (now (derivers .exit)) (now (manager .exit)) (now (rights .exit))) ⌝ }
 {
-    if !sound_of(*live, i, a, derives, derivers, manager) {
+    if !sound_of(*live, i, a, derives, derivers, manager, rights) {
         return Answer::plain(1);
     }
-    decide(live, i, a, derives, derivers, manager, c)
+    decide(live, i, a, derives, derivers, manager, rights, c)
 }
 
 // One command on a board by value.
@@ -457,6 +500,7 @@ pub fn step(b: Board, c: Command) -> Outcome
     let mut derives = b.derives;
     let mut derivers = b.derivers;
     let mut manager = b.manager;
+    let mut rights = b.rights;
     let answer = settle(
         &mut live,
         &mut i,
@@ -464,6 +508,7 @@ pub fn step(b: Board, c: Command) -> Outcome
         &mut derives,
         &mut derivers,
         &mut manager,
+        &mut rights,
         c,
     );
     let board = Board {
@@ -473,6 +518,7 @@ pub fn step(b: Board, c: Command) -> Outcome
         derives,
         derivers,
         manager,
+        rights,
     };
     Outcome { answer, board }
 }

@@ -1,4 +1,4 @@
-// The cooperative's board: its roles and edges, the five commands that change it and the four questions about it.
+// The cooperative's board: its roles, edges and rights, the seven commands that change it and the four questions about it.
 //
 // A command is one call, `step`: it checks the board it is handed, decides, and gives back the answer and the board, changed where
 // the number is 0 and as it was where it is not. Nobody has to test anything before.
@@ -11,13 +11,15 @@ mod effects;
 pub mod kept;
 pub mod lent;
 pub mod questions;
+mod rights;
 mod shape;
 mod tables;
 
 // `live` is the set of the live roles. Row x of `i` is the set of the juniors that role x has by I, row x of `a` of those by A; an
 // IA edge is in both. The rest is kept so that nobody has to work it out again: row x of `derives` is the set of what x derives, row
 // x of `derivers` of what derives x, and `manager` has the line managers, with NO_MANAGER for none. A command leaves these right; a
-// board where they are wrong is not sound.
+// board where they are wrong is not sound. `rights` has a byte for each role, with the right to give command 1 in its lowest bit and
+// so on; a board is not sound where a role that isn't live has one, or where there are more than the five.
 #[repr(C)]
 pub struct Board {
     pub live: u64,
@@ -26,6 +28,7 @@ pub struct Board {
     pub derives: [u64; Board::ROLES],
     pub derivers: [u64; Board::ROLES],
     pub manager: [u8; Board::ROLES],
+    pub rights: [u8; Board::ROLES],
 }
 
 impl Board {
@@ -34,16 +37,20 @@ impl Board {
     pub const EDGES: usize = 2016;
     // in `manager`: role 0 and roles that aren't live have none
     pub const NO_MANAGER: u8 = 64;
-    // the bytes of the longest board file: a byte a role, three an edge, and the trailer's six
-    pub const FILE: usize = Board::ROLES + 3 * Board::EDGES + 6;
+    // in `rights`: all five
+    pub const ALL_RIGHTS: u8 = 31;
+    // the bytes of the longest board file: two bytes a role, three an edge, and the trailer's eight
+    pub const FILE: usize = 2 * Board::ROLES + 3 * Board::EDGES + 8;
 
-    // Role 0 lives, and there is no edge.
+    // Role 0 lives and has all rights, and there is no edge.
     pub fn founding() -> Self
         ensures { λ r. ⌜ r ≡ foundingBoard ⌝ }
     {
         let none = [0u64; Board::ROLES];
         let mut itself = [0u64; Board::ROLES];
         itself[0] = 1;
+        let mut rights = [0u8; Board::ROLES];
+        rights[0] = Board::ALL_RIGHTS;
         Board {
             live: 1,
             i: none,
@@ -51,12 +58,13 @@ impl Board {
             derives: itself,
             derivers: itself,
             manager: [Board::NO_MANAGER; Board::ROLES],
+            rights,
         }
     }
 }
 
-// What a coordinator asks for. `role` is the role of commands 1 and 2, and the senior of 3, 4 and 5. A field that a command
-// doesn't use may hold anything. Numbers are as wide as a caller's, so that one that is no role stays none and is refused.
+// What a coordinator asks for. `role` is the role of commands 1, 2, 6 and 7, and the senior of 3, 4 and 5; `rights` are those that 6
+// gives and 7 takes. A field that a command doesn't use may hold anything. Numbers are as wide as a caller's, so that one that is no role stays none and is refused.
 #[repr(C)]
 pub struct Command {
     pub code: u32,
@@ -64,6 +72,7 @@ pub struct Command {
     pub role: u32,
     pub junior: u32,
     pub kind: u32,
+    pub rights: u32,
     pub a_seniors: u64,
     pub i_seniors: u64,
     pub a_juniors: u64,

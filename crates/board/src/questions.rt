@@ -65,7 +65,15 @@ fn refused(live: u64, x: u32, y: u32) -> u8
 pub fn derives(b: Board, x: u32, y: u32) -> Derived
     ensures { λ r. ⌜ DerivesAnswer b x y (r .number) (r .yes) ⌝ }
 {
-    if !sound_of(b.live, &b.i, &b.a, &b.derives, &b.derivers, &b.manager) {
+    if !sound_of(
+        b.live,
+        &b.i,
+        &b.a,
+        &b.derives,
+        &b.derivers,
+        &b.manager,
+        &b.rights,
+    ) {
         return Derived {
             number: 1,
             yes: false,
@@ -90,7 +98,15 @@ pub fn derives_by(live: u64, down: &[u64; 64], x: u32, y: u32) -> Derived
 pub fn scope(b: Board, a: u32, r: u32) -> Scoped
     ensures { λ y. ⌜ ScopeAnswer b a r (y .number) (y .yes) (y .count) (y .cause) (y .way) ⌝ }
 {
-    if !sound_of(b.live, &b.i, &b.a, &b.derives, &b.derivers, &b.manager) {
+    if !sound_of(
+        b.live,
+        &b.i,
+        &b.a,
+        &b.derives,
+        &b.derivers,
+        &b.manager,
+        &b.rights,
+    ) {
         return Scoped {
             number: 1,
             yes: false,
@@ -141,7 +157,15 @@ pub fn scope_by<'v>(live: u64, down: &'v [u64; 64], up: &'v [u64; 64], a: u32, r
 pub fn line_manager(b: Board, r: u32) -> Managed
     ensures { λ y. ⌜ ManagerAnswer b r (y .number) (y .manager) ⌝ }
 {
-    if !sound_of(b.live, &b.i, &b.a, &b.derives, &b.derivers, &b.manager) {
+    if !sound_of(
+        b.live,
+        &b.i,
+        &b.a,
+        &b.derives,
+        &b.derivers,
+        &b.manager,
+        &b.rights,
+    ) {
         return Managed {
             number: 1,
             manager: Manager::Nobody,
@@ -169,7 +193,15 @@ pub fn line_manager_by(live: u64, manager: &[u8; 64], r: u32) -> Managed
 pub fn steps(b: Board, r: u32) -> Stepped
     ensures { λ y. ⌜ StepsAnswer b r (y .number) (y .steps) ⌝ }
 {
-    if !sound_of(b.live, &b.i, &b.a, &b.derives, &b.derivers, &b.manager) {
+    if !sound_of(
+        b.live,
+        &b.i,
+        &b.a,
+        &b.derives,
+        &b.derivers,
+        &b.manager,
+        &b.rights,
+    ) {
         return Stepped {
             number: 1,
             steps: 0,

@@ -16,7 +16,7 @@ use Rattle.board.specs.declared.Board.{Board}
 use Rattle.board.proofs.Rules.{first-alike, first-done, first-refused, first-next}
 use Rattle.board.proofs.Asking.{answer-as}
 use Rattle.boardfile.specs.Files.{stretchOf}
-use Rattle.boardfile.specs.Answers.{IsFile, refusals, ReadAnswer, askedRefusals, OfFile, startOrNone, Stands, BoundsAnswer, StretchAnswer}
+use Rattle.boardfile.specs.Answers.{IsFile, TablesIn, refusals, ReadAnswer, askedRefusals, OfFile, startOrNone, Stands, BoundsAnswer, StretchAnswer}
 use Rattle.boardfile.proofs.OneFile.{named-by}
 use Rattle.boardfile.proofs.Places.{stands-small, place-inside, place-is}
 
@@ -24,7 +24,7 @@ use Rattle.boardfile.proofs.Places.{stands-small, place-inside, place-i
 
 -- the two refusals of its own
 abbrev own : List ℕ → ℕ → ℕ → List (ℕ × Type 0)
-own f x y = (2, (63 < x) ⊎ (63 < y)) ∷ (3, ((t : Tables) × IsFile f t × ((x isIn t .live → ⊥) ⊎ (y isIn t .live → ⊥)))) ∷ []
+own f x y = (2, (63 < x) ⊎ (63 < y)) ∷ (3, TablesIn f (λ t. (x isIn t .live → ⊥) ⊎ (y isIn t .live → ⊥))) ∷ []
 
 pub asked-refused : (f : List ℕ) (x y n : ℕ) → First (refusals f) n → n ≢ 0 → First (askedRefusals f x y) n
 asked-refused f x y n h z = first-refused (refusals f) (own f x y) n z h
@@ -60,8 +60,8 @@ in-range f role h =
     omega (arith, low)
 
 module _ {f : List ℕ} {role number start len : ℕ} (a : BoundsAnswer f role number start len) where
-  found : number ≡ 0 → (t : Tables) × IsFile f t × Stands role t (start, len) × (role < 64)
-  found e = let w = a .done e in (tablesOf (w .0), w .1 .done refl .0, w .2, in-range f role (subst (First (askedRefusals f role role)) e (a .numbered)))
+  found : number ≡ 0 → (t : Tables) × ((rights : List ℕ) × IsFile f t rights) × Stands role t (start, len) × (role < 64)
+  found e = let w = a .done e in (tablesOf (w .0), (w .0 .rights, w .1 .done refl .0), w .2, in-range f role (subst (First (askedRefusals f role role)) e (a .numbered)))
 
   nowhere : number ≢ 0 → (start ≡ 0) × (len ≡ 0)
   nowhere n = (ap (λ (p : ℕ × ℕ). p .0) (a .refused n), ap (λ (p : ℕ × ℕ). p .1) (a .refused n))
@@ -74,7 +74,7 @@ module _ {f : List ℕ} {role number start len : ℕ} (a : BoundsAnswer f role n
 
   pub bounds-inside : start + len ≤ length f
   bounds-inside = dite (ℕ-discrete number 0)
-      (λ e. let w = found e in omega (arith, w .2 .0, w .2 .1, ap length (w .1 .bytes), place-inside (w .0) role (w .3)))
+      (λ e. let w = found e in omega (arith, w .2 .0, w .2 .1, ap length (w .1 .1 .bytes), place-inside (w .0) role (w .1 .0) (w .3)))
       (λ n. let w = nowhere n in omega arith)
 
   pub stretched : (k : ℕ) → k ≡ len → StretchAnswer f role (take k (drop start f)) start
@@ -84,8 +84,7 @@ module _ {f : List ℕ} {role number start len : ℕ} (a : BoundsAnswer f role n
     done = λ e. let w = found e in (
       w .0,
       w .1,
-      ap₂ (λ (n m : ℕ). take n (drop m f)) (q ∙ w .2 .1) (w .2 .0) ∙ ap (λ (g : List ℕ). take (length (stretchOf (w .0) role)) (drop (startOrNone (w .0) role) g)) (w .1 .bytes) ∙ place-is (w .0) role (w .3),
-      w .2 .0,
+      (ap₂ (λ (n m : ℕ). take n (drop m f)) (q ∙ w .2 .1) (w .2 .0) ∙ ap (λ (g : List ℕ). take (length (stretchOf (w .0) role)) (drop (startOrNone (w .0) role) g)) (w .1 .1 .bytes) ∙ place-is (w .0) role (w .1 .0) (w .3), w .2 .0),
     );
     refused = λ n. let w = nowhere n in (ap₂ (λ (n m : ℕ). take n (drop m f)) (q ∙ w .1) (w .0), w .0);
   }

@@ -1,17 +1,21 @@
 -- Edge records and whole files: what stands at which byte. Assumes nothing.
 use mathlib.Core.Path.{_≡_, refl, sym, ap, ap₂, _∙_}
-use mathlib.Core.Bool.{true, false, not}
+use mathlib.Core.Bool.{Bool, true, false, cond, not}
 use mathlib.Core.Logic.{_≢_}
-use mathlib.Core.List.{List, [], _∷_, _++_, append-assoc}
-use Prim.Native.Nat.{ℕ, zero, suc, _+_, _-_, _*_, _/_, _%_, _≤_, _<_, suc-le-suc, zero-le}
-use native.Mathlib.Nat.{add-zero}
+use mathlib.Core.List.{List, [], _∷_, _++_, map, append-nil, append-assoc}
+use Prim.Native.Nat.{ℕ, zero, suc, _+_, _*_, _/_, _%_, _≤_, _<_, suc-le-suc, zero-le}
+use native.Mathlib.Nat.{zero-add, add-zero}
 use native.Mathlib.Omega.{arith}
 use lib.Dec.{eqb}
-use lib.ListN.{length, getD, take, drop, length-append, List·getD-append}
-use lib.Seq.{drop-nil, drop-cons, getD-drop, getD-append-add, take-at, drop-at}
+use lib.ListN.{length, getD, take, drop, length-append, length-map}
+use lib.Seq.{drop-nil, drop-cons, getD-take, getD-drop, take-at, drop-at}
 use borrow.Author.Tests.{not-true, ne-eqb, eq-eqb, eqb-false}
-use Rattle.boardfile.specs.Files.{from, records, edge?, edgeBytes, trailer}
-use Rattle.boardfile.specs.Faults.{byte, word, edgeDistance, roleDistance, roleCount, edgeCount}
+use Rattle.sets.specs.Sets.{bit}
+use Rattle.hierarchy.specs.Tables.{Tables}
+use Rattle.board.specs.Rights.{rightsOf}
+use Rattle.boardfile.specs.Files.{from, records, edge?, edgeBytes, kindAt, bytesOf, bytesWith, founding?, fileOf}
+use Rattle.boardfile.specs.Faults.{byte}
+use Rattle.boardfile.specs.Parts.{bodyLength, trailerOf, Trailed}
 use Rattle.boardfile.proofs.Ascending.{from-split, from-same, from-at, from-next, from-end, from-mono, from-short}
 
 -- ---- some bytes of a list, one by one
@@ -115,55 +119,80 @@ pub edge-end : (m n k : ℕ) (kinds : ℕ → ℕ) → n ≤ m → ((e : ℕ) �
 unfolding edgeBytes
 edge-end m n k kinds l none = ap (records kinds) (from-end m n k (edge? kinds) l (λ e a b. edge-false kinds e (none e a)))
 
--- ---- a file of these role bytes and these edge records
+-- ---- a part of a list
 
-abbrev pub whole : List ℕ → List ℕ → List ℕ
-whole rs es = rs ++ es ++ trailer (length es) (length rs + length es)
+pub middle : (p q r : List ℕ) (a k : ℕ) → length p ≡ a → length q ≡ k → take k (drop a (p ++ (q ++ r))) ≡ q
+middle p q r a k e h = ap (take k) (drop-at p (q ++ r) a e) ∙ take-at q r k h
 
-module _ (rs es : List ℕ) where
-  pub whole-length : length (whole rs es) ≡ length rs + length es + 6
-  unfolding trailer
-  whole-length = simp length-append
+pub byte-part : (f part : List ℕ) (p k : ℕ) → take (length part) (drop p f) ≡ part → k < length part → byte f (p + k) ≡ byte part k
+byte-part f part p k e h = sym (getD-drop p f k 0) ∙ sym (getD-take (length part) (drop p f) k 0 h) ∙ ap (λ (l : List ℕ). byte l k) e
 
-  pub whole-roles : take (length rs) (whole rs es) ≡ rs
-  whole-roles = rw append-assoc (take-at rs (es ++ trailer (length es) (length rs + length es)) (length rs) refl)
+pub map-at : (g : ℕ → ℕ) (l : List ℕ) (k : ℕ) → k < length l → byte (map g l) k ≡ g (byte l k)
+map-at g [] k h = absurd (omega arith)
+map-at g (x ∷ l) zero h = refl
+map-at g (x ∷ l) (suc k) h = map-at g l k (omega arith)
 
-  pub whole-edges : take (length es) (drop (length rs) (whole rs es)) ≡ es
-  whole-edges =
-      rw append-assoc
-      (ap (take (length es)) (drop-at rs (es ++ trailer (length es) (length rs + length es)) (length rs) refl)
-      ∙ take-at es (trailer (length es) (length rs + length es)) (length es) refl)
+-- ---- a file of these role bytes, edge records and rights bytes: HH's where plain, and then without the last
 
-  pub byte-role : (k : ℕ) → k < length rs → byte (whole rs es) k ≡ byte rs k
-  byte-role k h =
-      List·getD-append (rs ++ es) (trailer (length es) (length rs + length es)) 0 k (omega (arith, length-append rs es))
-      ∙ List·getD-append rs es 0 k h
+abbrev pub whole : Bool → List ℕ → List ℕ → List ℕ → List ℕ
+whole plain rs es hs = rs ++ es ++ cond plain [] hs ++ trailerOf plain (length rs) (length es)
 
-  pub byte-edge : (k : ℕ) → k < length es → byte (whole rs es) (length rs + k) ≡ byte es k
-  byte-edge k h =
-      List·getD-append (rs ++ es) (trailer (length es) (length rs + length es)) 0 (length rs + k) (omega (arith, length-append rs es))
-      ∙ getD-append-add rs es k 0
+module _ (plain : Bool) (rs es hs : List ℕ) where
+  abbrev held : List ℕ
+  held = cond plain [] hs
 
-  pub byte-tail : (n k : ℕ) → n ≡ length rs + length es + k → byte (whole rs es) n ≡ byte (trailer (length es) (length rs + length es)) k
-  byte-tail n k e =
-      ap (byte (whole rs es)) (e ∙ ap (λ (m : ℕ). m + k) (sym (length-append rs es)))
-      ∙ getD-append-add (rs ++ es) (trailer (length es) (length rs + length es)) k 0
+  abbrev last : List ℕ
+  last = trailerOf plain (length rs) (length es)
 
-  word-tail : (n k : ℕ) → n ≡ length rs + length es + k → word (whole rs es) n ≡ word (trailer (length es) (length rs + length es)) k
-  word-tail n k e = ap₂ (λ (x y : ℕ). x + 256 * y) (byte-tail n k e) (byte-tail (n + 1) (k + 1) (omega arith))
+  pub whole-roles : take (length rs) (whole plain rs es hs) ≡ rs
+  whole-roles = simp append-assoc (middle [] rs (es ++ (held ++ last)) 0 (length rs) refl refl)
 
-  pub edge-distance : edgeDistance (whole rs es) ≡ length es
-  unfolding trailer
-  edge-distance = word-tail (length (whole rs es) - 6) 0 (omega (arith, whole-length)) ∙ omega arith
+  pub whole-edges : take (length es) (drop (length rs) (whole plain rs es hs)) ≡ es
+  whole-edges = simp append-assoc (middle rs es (held ++ last) (length rs) (length es) refl refl)
 
-  pub role-distance : roleDistance (whole rs es) ≡ length rs + length es
-  unfolding trailer
-  role-distance = word-tail (length (whole rs es) - 4) 2 (omega (arith, whole-length)) ∙ omega arith
+  pub whole-rights : take (length held) (drop (length rs + length es) (whole plain rs es hs)) ≡ held
+  whole-rights =
+      ap (λ (l : List ℕ). take (length held) (drop (length rs + length es) l)) (append-assoc (rs ++ es) held last)
+      ∙ middle (rs ++ es) held last (length rs + length es) (length held) (length-append rs es) refl
 
-  pub role-count : roleCount (whole rs es) ≡ length rs
-  unfolding roleCount
-  role-count = omega (arith, edge-distance, role-distance)
+  pub byte-role : (k : ℕ) → k < length rs → byte (whole plain rs es hs) k ≡ byte rs k
+  byte-role k h = ap (byte (whole plain rs es hs)) (sym (zero-add k)) ∙ byte-part (whole plain rs es hs) rs 0 k whole-roles h
 
-  pub edge-count : edgeCount (whole rs es) ≡ length es / 3
-  unfolding edgeCount
-  edge-count = ap (λ (n : ℕ). n / 3) edge-distance
+  pub byte-edge : (k : ℕ) → k < length es → byte (whole plain rs es hs) (length rs + k) ≡ byte es k
+  byte-edge k h = byte-part (whole plain rs es hs) es (length rs) k whole-edges h
+
+  pub byte-right : (k : ℕ) → k < length held → byte (whole plain rs es hs) (length rs + length es + k) ≡ byte held k
+  byte-right k h = byte-part (whole plain rs es hs) held (length rs + length es) k whole-rights h
+
+-- where there is a rights byte for each role, the trailer is right
+module _ (rs es hs : List ℕ) (each : length hs ≡ length rs) where
+  body : (plain : Bool) → length (rs ++ es ++ cond plain [] hs) ≡ bodyLength plain (length rs) (length es)
+  unfolding bodyLength
+  body true = simp length-append (add-zero (length rs + length es))
+  body false = simp length-append (ap (λ (n : ℕ). length rs + length es + n) each)
+
+  pub whole-trailed : (plain : Bool) → Trailed plain (whole plain rs es hs) (length rs) (length es)
+  whole-trailed plain =
+      let front : List ℕ = rs ++ es ++ cond plain [] hs in
+      let last : List ℕ = trailerOf plain (length rs) (length es) in
+      record { long = length-append front last ∙ ap (λ (n : ℕ). n + length last) (body plain); tail = drop-at front last (bodyLength plain (length rs) (length es)) (body plain) }
+
+-- the file of a board is such a one
+module _ (t : Tables) (rights : List ℕ) where
+  abbrev pub rolesOf : List ℕ
+  rolesOf = from 64 0 (bit (t .live))
+
+  abbrev pub edgesOf : List ℕ
+  edgesOf = edgeBytes (kindAt t) 4096 0
+
+  abbrev pub heldOf : List ℕ
+  heldOf = map (rightsOf rights) rolesOf
+
+  either : (plain : Bool) → cond plain (bytesOf (bit (t .live)) (kindAt t)) (bytesWith (bit (t .live)) (kindAt t) rights) ≡ whole plain rolesOf edgesOf heldOf
+  unfolding bytesOf bytesWith trailerOf
+  either true = rw (append-nil (rolesOf ++ edgesOf))
+  either false = rw (length-map rolesOf (rightsOf rights))
+
+  pub file-whole : fileOf t rights ≡ whole (founding? rights) rolesOf edgesOf heldOf
+  unfolding fileOf
+  file-whole = either (founding? rights)

@@ -12,6 +12,7 @@ use Rattle.board.specs.declared.Command.{Command}
 use Rattle.board.specs.declared.commands.Answer.{Answer}
 use Rattle.boardfile.specs.declared.commands.Place.{Place}
 use Rattle.boardfile.specs.declared.commands.Place.the-variants.{Asked, File, Writing}
+use Rattle.boardfile.specs.Files.{fileOf}
 use Rattle.boardfile.specs.Answers.{ReadAnswer, writeRefusals, WriteAnswer, CommandAnswer, CommandAnswer.unread, CommandAnswer.refused, CommandAnswer.no-room, CommandAnswer.done}
 use Rattle.boardfile.specs.Parts.{PutAnswer}
 use Rattle.boardfile.proofs.Theorems.{sound-length, put-writes}
@@ -21,7 +22,7 @@ sound-next : {b next : Board} {c : Command} → Decided b c (plain 0) next → S
 sound-next d = d .done refl .fit
 
 module _ {f : List ℕ} {b next : Board} {c : Command} {entry exit : List ℕ} {m : Answer} {n len : ℕ} (r : ReadAnswer f 0 b) (decided : Decided b c m next) (e : m .number ≡ 0)
-    (put : PutAnswer (tablesOf next) entry 0 exit n len) where
+    (put : PutAnswer (fileOf (tablesOf next) (next .rights)) entry 0 exit n len) where
   -- done names nobody
   bare : m ≡ plain 0
   bare = decided .named .other (λ six. omega (arith, e, six)) ∙ ap plain e
@@ -53,8 +54,8 @@ pub unread-as : {f : List ℕ} {b : Board} {c : Command} {entry exit : List ℕ}
 unread-as {f} {c = c} {entry} {exit} q r z e = subst (λ (k : Answer). CommandAnswer f c entry exit File k 0) (sym q) (unread r z e)
 
 -- the new file is no longer than any other
-pub command-short : {f : List ℕ} {c : Command} {entry exit : List ℕ} {p : Place} {m : Answer} {len : ℕ} → CommandAnswer f c entry exit p m len → len ≤ 6118
+pub command-short : {f : List ℕ} {c : Command} {entry exit : List ℕ} {p : Place} {m : Answer} {len : ℕ} → CommandAnswer f c entry exit p m len → len ≤ 6184
 command-short (unread r z e) = omega arith
 command-short (refused r d z e) = omega arith
 command-short (no-room r d w) = omega arith
-command-short (done {next = next} r d w) = omega (arith, w .done refl .0, sound-length (tablesOf next) (sound-next d .sound))
+command-short (done {next = next} r d w) = omega (arith, w .done refl .0, sound-length (tablesOf next) (sound-next d .sound) (next .rights))

@@ -1,10 +1,10 @@
 -- Start here: the three demands of document 01 as theorems, each with the names of what it rests on. That a call always ends, and that
 -- its answer is as its promise says, is proved of each function by itself; these are about the promises. Assumes nothing.
-use mathlib.Core.Path.{_≡_, refl, sym, ap, _∙_, subst}
+use mathlib.Core.Path.{_≡_, refl, sym, ap, _∙_, subst, subst₂}
 use mathlib.Core.Bool.{Bool}
 use mathlib.Core.Logic.{_⊎_, inl, inr, ⊎-elim, ⊎-map, _≢_, _↔_, dite}
 use mathlib.Core.List.{List, [], _∷_}
-use Prim.Native.Nat.{ℕ, _+_, _≤_}
+use Prim.Native.Nat.{ℕ, _+_, _≤_, _<_}
 use native.Mathlib.Decide.{ℕ-discrete}
 use native.Mathlib.Omega.{arith}
 use lib.Count.{ones}
@@ -18,8 +18,9 @@ use Rattle.hierarchy.proofs.Bars.{out-by, out-unique, out-not, out-some}
 use Rattle.hierarchy.proofs.ClimbLaws.{Distinct, met}
 use Rattle.hierarchy.proofs.FirstLaws.{first-unique, hit, pass}
 use Rattle.hierarchy.proofs.Theorems.{no-manager, one-manager, one-climb, one-way, climb-distinct, climb-short}
-use Rattle.board.specs.Boards.{tablesOf, foundingBoard, KeepsRight, SoundBoard}
+use Rattle.board.specs.Boards.{tablesOf, boardOf, foundingBoard, KeepsRight, SoundBoard}
 use Rattle.board.specs.Effects.{after}
+use Rattle.board.specs.Rights.{foundingRights, RightsFit, Entitled, rightsAfter}
 use Rattle.board.specs.Commands.{Malformed, Fits, edgeKind, InScope, Blames, plain, before, afterwards, onTables, Made, Decided}
 use Rattle.board.specs.Commands.{refusals as commandRefusals}
 use Rattle.board.specs.EdgeParts.{both, less, NoneStands, TakesBack}
@@ -30,6 +31,8 @@ use Rattle.board.specs.declared.Command.{Command}
 use Rattle.board.specs.declared.commands.Answer.{Answer}
 use Rattle.board.specs.declared.questions.Manager.{Manager}
 use Rattle.board.proofs.Founding.{founding-sound}
+use Rattle.board.proofs.Edits.{tables-stay}
+use Rattle.board.proofs.Using.{rights-stay, idle-rights}
 use Rattle.board.proofs.SoundAfter.{idle-change}
 use Rattle.board.proofs.Blaming.{blames-one}
 use Rattle.board.proofs.Offenders.{blamed-where}
@@ -41,11 +44,12 @@ use Rattle.board.proofs.Settled.{board-stable, one-board, decided-unique, deriv
 use Rattle.board.proofs.Viewing.{derives-kept, derivers-kept, manager-kept, scope-kept, steps-kept}
 use Rattle.boardfile.specs.declared.commands.Place.{Place}
 use Rattle.boardfile.specs.Files.{fileOf}
+use Rattle.boardfile.specs.Faults.{EndsHH, EndsHR}
 use Rattle.boardfile.specs.Answers.{refusals, ReadAnswer, ReadInto, DerivesOnFile, ScopeOnFile, ManagerOnFile, StepsOnFile, StretchOf, Placed, Unplaced, writeRefusals, WriteAnswer}
 use Rattle.boardfile.specs.Answers.{CommandAnswer, CommandAnswer.unread, CommandAnswer.refused, CommandAnswer.no-room, CommandAnswer.done}
 use Rattle.boardfile.specs.Reached.{Reached, Reached.founding, Reached.file, Reached.command}
 use Rattle.boardfile.proofs.Settled.{read-unique, write-unique, derives-file-unique, scope-file-unique, manager-file-unique, steps-file-unique, stretch-unique, command-unique}
-use Rattle.boardfile.proofs.Theorems.{accepted, reads-back, written-file}
+use Rattle.boardfile.proofs.Theorems.{accepted, reads-back, written-file, plain-where, rights-where}
 
 -- n is a number of the table
 abbrev Among : ℕ → List (ℕ × Type 0) → Type 0
@@ -63,7 +67,7 @@ refused-among t n f z = ⊎-elim (λ e. absurd (z e)) (λ a. a) (first-among t n
 
 -- ---- demand 1: each call ends with the change made, or with one refusal number of its table, and then all that was lent is as it was
 
--- a command on a board: 1 to 9
+-- a command on a board: 1 to 9, or 13
 pub command-ends : {b board : Board} {c : Command} {answer : Answer} → Decided b c answer board
     → ((answer .number ≡ 0) × Made SoundBoard b c board) ⊎ (Among (answer .number) (commandRefusals b c) × (board ≡ b))
 command-ends {b} {board} {c} {answer} d = dite (ℕ-discrete (answer .number) 0)
@@ -72,21 +76,21 @@ command-ends {b} {board} {c} {answer} d = dite (ℕ-discrete (answer .number) 0)
 
 -- a file: with the board it is the file of, or with one of 10, 11, 7, 9 and the founding board
 pub file-ends : {f : List ℕ} {board : Board} {number : ℕ} → ReadAnswer f number board
-    → ((number ≡ 0) × (f ≡ fileOf (tablesOf board))) ⊎ (Among number (refusals f) × (board ≡ foundingBoard))
+    → ((number ≡ 0) × (f ≡ fileOf (tablesOf board) (board .rights))) ⊎ (Among number (refusals f) × (board ≡ foundingBoard))
 file-ends {f} {board} {number} r = dite (ℕ-discrete number 0)
     (λ e. inl (e, r .done e .0 .bytes))
     (λ n. inr (refused-among (refusals f) number (r .numbered) n, r .refused n))
 
 -- the same into a board that is lent: a refusal leaves it
 pub reading-ends : {f : List ℕ} {entry exit : Board} {number : ℕ} → ReadInto f entry exit number
-    → ((number ≡ 0) × (f ≡ fileOf (tablesOf exit))) ⊎ (Among number (refusals f) × (exit ≡ entry))
+    → ((number ≡ 0) × (f ≡ fileOf (tablesOf exit) (exit .rights))) ⊎ (Among number (refusals f) × (exit ≡ entry))
 reading-ends {f} {number = number} r = dite (ℕ-discrete number 0)
     (λ e. inl (e, r .done e .done refl .0 .bytes))
     (λ n. inr (refused-among (refusals f) number (r .numbered) n, r .refused n))
 
 -- writing: with the file at its place, or with 1 or 12 and the buffer as it was
 pub writing-ends : {b : Board} {entry exit : List ℕ} {at number len : ℕ} → WriteAnswer b entry at exit number len
-    → ((number ≡ 0) × Placed (tablesOf b) entry at exit len) ⊎ (Among number (writeRefusals b entry at) × Unplaced entry exit len)
+    → ((number ≡ 0) × Placed (fileOf (tablesOf b) (b .rights)) entry at exit len) ⊎ (Among number (writeRefusals b entry at) × Unplaced entry exit len)
 writing-ends {b} {entry} {at = at} {number = number} w = dite (ℕ-discrete number 0)
     (λ e. inl (e, w .done e))
     (λ n. inr (refused-among (writeRefusals b entry at) number (w .numbered) n, w .refused n))
@@ -99,12 +103,14 @@ Refused f c number =
     ⊎ ((b : Board) × ReadAnswer f 0 b × (Among number (commandRefusals b c) ⊎ (number ≡ 12)))
 
 pub file-command-ends : {f : List ℕ} {c : Command} {entry exit : List ℕ} {place : Place} {answer : Answer} {len : ℕ} → CommandAnswer f c entry exit place answer len
-    → ((answer .number ≡ 0) × ((b : Board) × ReadAnswer f 0 b × Placed (after (tablesOf b) c) entry 0 exit len)) ⊎ (Refused f c (answer .number) × Unplaced entry exit len)
+    → ((answer .number ≡ 0) × ((b : Board) × ReadAnswer f 0 b × Placed (fileOf (after (tablesOf b) c) (rightsAfter c (b .rights))) entry 0 exit len))
+    ⊎ (Refused f c (answer .number) × Unplaced entry exit len)
 file-command-ends {f} (unread {number = n} r z e) = inr (inl (refused-among (refusals f) n (r .numbered) z), (refl, e))
 file-command-ends {c = c} (refused {answer = m} {b = b} r d z e) = inr (inr (b, r, inl (refused-among (commandRefusals b c) (m .number) (d .numbered) z)), (refl, e))
 file-command-ends (no-room {b = b} r d w) = inr (inr (b, r, inr refl), w .refused (λ e. absurd (omega (arith, e))))
 file-command-ends {entry = entry} {exit = exit} {len = len} (done {b = b} r d w) =
-    inl (refl, (b, r, subst (λ (t : Tables). Placed t entry 0 exit len) (d .done refl .tables-are) (w .done refl)))
+    let made = d .done refl in
+    inl (refl, (b, r, subst₂ (λ (t : Tables) (h : List ℕ). Placed (fileOf t h) entry 0 exit len) (made .tables-are) (made .rights-are) (w .done refl)))
 
 -- ---- demand 2: the answer is the one that document 01 states, and no other. What it states is `Decided`, `DerivesAnswer`, `ScopeAnswer`,
 -- `ManagerAnswer` and `StepsAnswer` on a board, and `ReadAnswer`, `WriteAnswer`, `StretchOf`, the four `..OnFile` and `CommandAnswer` on files.
@@ -112,10 +118,10 @@ file-command-ends {entry = entry} {exit = exit} {len = len} (done {b = b} r d w)
 pub one-outcome : {b x y : Board} {c : Command} {m n : Answer} → Decided b c m x → Decided b c n y → (m ≡ n) × (x ≡ y)
 one-outcome = decided-unique
 
--- a board that keeps a wrong value gives 1: from a command, from a question, and from the writer
-module _ {b : Board} (wrong : KeepsRight b → ⊥) where
+-- a board that keeps a wrong value, or rights that it may not have, gives 1: from a command, from a question, and from the writer
+module _ {b : Board} (wrong : KeepsRight b × RightsFit (b .live) (b .rights) → ⊥) where
   unsound : SoundBoard b → ⊥
-  unsound s = wrong (s .right)
+  unsound s = wrong (s .right, s .rightful)
 
   pub wrong-value-command : {next : Board} {c : Command} {answer : Answer} → Decided b c answer next → answer .number ≡ 1
   wrong-value-command {c = c} {answer = answer} d = first-unique (commandRefusals b c) (answer .number) 1 (d .numbered) (hit _ _ _ unsound)
@@ -132,40 +138,54 @@ module _ {b next : Board} {c : Command} (d : Decided b c (plain 0) next) where
   formed = first-done (commandRefusals b c) refl (d .numbered) .1 .0
 
   pub edge-added : c .code ≡ 3 → edgeKind (tablesOf next) c ≡ both (edgeKind (tablesOf b) c) (c .kind)
-  edge-added e = ap (λ t. edgeKind t c) (d .done refl .tables-are) ∙ kind-added c (role-lt c formed) (junior-lt c formed (omega (arith, e))) (tablesOf b) e
+  edge-added e = ap (λ t. edgeKind t c) (d .done refl .tables-are) ∙ kind-added c (role-lt c formed) (junior-lt c formed (omega (arith, e), omega (arith, e))) (tablesOf b) e
 
   pub edge-removed : c .code ≡ 4 → edgeKind (tablesOf next) c ≡ less (edgeKind (tablesOf b) c) (c .kind)
-  edge-removed e = ap (λ t. edgeKind t c) (d .done refl .tables-are) ∙ kind-removed c (role-lt c formed) (junior-lt c formed (omega (arith, e))) (tablesOf b) e
+  edge-removed e = ap (λ t. edgeKind t c) (d .done refl .tables-are) ∙ kind-removed c (role-lt c formed) (junior-lt c formed (omega (arith, e), omega (arith, e))) (tablesOf b) e
 
-  -- what was added where no part of it stood the same actor can take back at once, and that leaves the very board of before
-  pub added-taken-back : {last : Board} {r : Command} {answer : Answer} → Decided next r answer last → TakesBack c r → NoneStands (tablesOf b) c → (answer .number ≡ 0) × (last ≡ b)
-  added-taken-back {last} {r} {answer} again w free =
+  -- what was added where no part of it stood the same actor can take back at once, if it may use the right to; that leaves the very board of before
+  pub added-taken-back : {last : Board} {r : Command} {answer : Answer} → Decided next r answer last → TakesBack c r → NoneStands (tablesOf b) c
+      → Entitled (Derives (tablesOf b)) (b .rights) r → (answer .number ≡ 0) × (last ≡ b)
+  added-taken-back {last} {r} {answer} again w free right =
       let number = answer .number in
       let passed = first-done (commandRefusals b c) refl (d .numbered) in
       let now = d .done refl in
+      let kept : SoundBoard b → next .rights ≡ b .rights = λ s. now .rights-are ∙ rights-stay c formed (s .rightful) (omega (arith, w .adds)) (omega (arith, w .adds)) in
       let zero : number ≡ 0 = stable (ℕ-discrete number 0) (λ k. passed .0 (λ s. k (first-unique (commandRefusals next r) number 0 (again .numbered)
-      (pass _ _ _ _ (λ n. n (now .fit)) (subst (λ t. First (onTables t r) 0) (sym (now .tables-are))
-      (back-granted (tablesOf b) w (s .sound) (first-without _ _ _ _ (passed .0) (d .numbered)) free)))))) in
-      let made = again .done zero in (
+      (pass _ _ _ _ (λ n. n (now .fit)) (subst₂ (λ t h. First (onTables t h r) 0) (sym (now .tables-are)) (sym (kept s))
+      (back-granted (tablesOf b) (b .rights) w (s .sound) (first-without _ _ _ _ (passed .0) (d .numbered)) free right)))))) in
+      let made = again .done zero in
+      let shape = first-done (commandRefusals next r) refl (subst (First (commandRefusals next r)) zero (again .numbered)) .1 .0 in (
         zero,
         board-stable last b (λ k. passed .0 (λ s. k (one-board (made .fit) s
-            (made .tables-are ∙ ap (λ t. after t r) (now .tables-are) ∙ taken-back w (tablesOf b) (s .sound .shaped) free)))),
+            (made .tables-are ∙ ap (λ t. after t r) (now .tables-are) ∙ taken-back w (tablesOf b) (s .sound .shaped) free)
+            (made .rights-are ∙ ap (rightsAfter r) (kept s) ∙ rights-stay r shape (s .rightful) (omega (arith, w .removes)) (omega (arith, w .removes)))))),
       )
 
--- changing an edge to the kind it has leaves the very board, whatever the number
-pub same-kind-again : {b next : Board} {c : Command} {answer : Answer} → Decided b c answer next → c .code ≡ 5 → edgeKind (tablesOf b) c ≡ c .kind → next ≡ b
-same-kind-again {b} {next} {c} {answer} d e same = dite (ℕ-discrete (answer .number) 0)
+-- a command whose tables and rights afterwards are those of before leaves the very board, whatever the number
+idle : {b next : Board} {c : Command} {answer : Answer} → Decided b c answer next
+    → (SoundBoard b → (Malformed c → ⊥) → (after (tablesOf b) c ≡ tablesOf b) × (rightsAfter c (b .rights) ≡ b .rights)) → next ≡ b
+idle {b} {next} {c} {answer} d same = dite (ℕ-discrete (answer .number) 0)
     (λ z.
     let passed = first-done (commandRefusals b c) refl (subst (First (commandRefusals b c)) z (d .numbered)) in
     let made = d .done z in
-    board-stable next b (λ k. passed .0 (λ s. k (one-board (made .fit) s (made .tables-are ∙ idle-change (tablesOf b) c (s .sound .shaped) e same)))))
+    board-stable next b (λ k. passed .0 (λ s. let e = same s (passed .1 .0) in k (one-board (made .fit) s (made .tables-are ∙ e .0) (made .rights-are ∙ e .1)))))
     (λ n. d .refused n)
 
--- and where none of 1 to 6 holds, it is done
-pub same-kind-done : {b next : Board} {c : Command} {answer : Answer} → Decided b c answer next → SoundBoard b → Passed (before (Scope (tablesOf b)) (tablesOf b) c)
-    → c .code ≡ 5 → edgeKind (tablesOf b) c ≡ c .kind → answer .number ≡ 0
-same-kind-done {b} {c = c} {answer = answer} d s passed e same = first-unique (commandRefusals b c) (answer .number) 0 (d .numbered)
-    (pass _ _ _ _ (λ k. k s) (first-next (before (Scope (tablesOf b)) (tablesOf b) c) (afterwards (after (tablesOf b) c) c) 0 passed
+-- changing an edge to the kind it has leaves the very board, whatever the number
+pub same-kind-again : {b next : Board} {c : Command} {answer : Answer} → Decided b c answer next → c .code ≡ 5 → edgeKind (tablesOf b) c ≡ c .kind → next ≡ b
+same-kind-again {b} {c = c} d e same = idle d (λ s formed. (
+  idle-change (tablesOf b) c (s .sound .shaped) e same,
+  rights-stay c formed (s .rightful) (omega (arith, e)) (omega (arith, e)),
+))
+
+-- and where none of 1 to 6 and 13 holds, it is done
+pub same-kind-done : {b next : Board} {c : Command} {answer : Answer} → Decided b c answer next → SoundBoard b
+    → Passed (before (Derives (tablesOf b)) (Scope (tablesOf b)) (tablesOf b) (b .rights) c) → c .code ≡ 5 → edgeKind (tablesOf b) c ≡ c .kind → answer .number ≡ 0
+same-kind-done {b} {c = c} {answer = answer} d s passed e same =
+    let first = before (Derives (tablesOf b)) (Scope (tablesOf b)) (tablesOf b) (b .rights) c in
+    first-unique (commandRefusals b c) (answer .number) 0 (d .numbered)
+    (pass _ _ _ _ (λ k. k s) (first-next first (afterwards (after (tablesOf b) c) c) 0 passed
     (subst (λ (t : Tables). First (afterwards t c) 0) (sym (idle-change (tablesOf b) c (s .sound .shaped) e same))
     (sound-passes (tablesOf b) c (s .sound) (λ k. absurd (omega arith))))))
 
@@ -193,6 +213,44 @@ six-names-one d six = (d .named .six six, λ m e h. blames-one (λ a x c d v w. 
 -- and every other answer, done or refused, names nobody
 pub others-name-nobody : {b next : Board} {c : Command} {answer : Answer} → Decided b c answer next → answer .number ≢ 6 → answer ≡ plain (answer .number)
 others-name-nobody d = d .named .other
+
+-- ---- request 4: the rights that roles hold
+
+-- a done command leaves those that `rightsAfter` says
+pub rights-left : {b next : Board} {c : Command} → Decided b c (plain 0) next → next .rights ≡ rightsAfter c (b .rights)
+rights-left d = d .done refl .rights-are
+
+-- commands 6 and 7 leave all but the rights, the very tables among it
+pub only-rights : {b next : Board} {c : Command} {answer : Answer} → Decided b c answer next → 5 < c .code
+    → next ≡ boardOf (b .live) (b .i) (b .a) (b .derives) (b .derivers) (b .manager) (next .rights)
+only-rights {b} {next} {c} {answer} d h = dite (ℕ-discrete (answer .number) 0)
+    (λ z.
+    let passed = first-done (commandRefusals b c) refl (subst (First (commandRefusals b c)) z (d .numbered)) in
+    let made = d .done z in
+    board-stable next _ (λ k. passed .0 (λ s.
+    let same : tablesOf next ≡ tablesOf b = made .tables-are ∙ tables-stay (tablesOf b) c (s .sound .shaped) h in
+    k (one-board (made .fit) record { sound = s .sound; right = s .right; rightful = subst (λ (t : Tables). RightsFit (t .live) (next .rights)) same (made .fit .rightful) } same refl))))
+    (λ n. d .refused n ∙ ap (λ (h : List ℕ). boardOf (b .live) (b .i) (b .a) (b .derives) (b .derivers) (b .manager) h) (ap (λ (x : Board). x .rights) (sym (d .refused n))))
+
+pub tables-left : {b next : Board} {c : Command} {answer : Answer} → Decided b c answer next → 5 < c .code → tablesOf next ≡ tablesOf b
+tables-left d h = ap tablesOf (only-rights d h)
+
+-- and where they name no right, the very board
+pub no-right-named : {b next : Board} {c : Command} {answer : Answer} → Decided b c answer next → 5 < c .code → c .rights ≡ 0 → next ≡ b
+no-right-named {b} {c = c} d h z = idle d (λ s formed. (tables-stay (tablesOf b) c (s .sound .shaped) h, idle-rights c formed (s .rightful) h z))
+
+-- a file that is read ends in HH exactly where its board has the founding rights, and every other one in HR
+pub plain-file : {f : List ℕ} {b : Board} → ReadAnswer f 0 b → EndsHH f ↔ (b .rights ≡ foundingRights)
+plain-file {b = b} r =
+    let w = r .done refl in
+    subst (λ (f : List ℕ). EndsHH f ↔ (b .rights ≡ foundingRights)) (sym (w .0 .bytes)) (plain-where (tablesOf b) (b .rights) (w .0 .rightful .rows))
+
+pub rights-file : {f : List ℕ} {b : Board} → ReadAnswer f 0 b → EndsHR f ↔ (b .rights ≢ foundingRights)
+rights-file {b = b} r =
+    let w = r .done refl in
+    subst (λ (f : List ℕ). EndsHR f ↔ (b .rights ≢ foundingRights)) (sym (w .0 .bytes)) (rights-where (tablesOf b) (b .rights) (w .0 .rightful .rows))
+
+-- ---- a question has one answer too
 
 module _ (b : Board) where
   pub one-derives : (x y : ℕ) {m n : ℕ} {p q : Bool} → DerivesAnswer b x y m p → DerivesAnswer b x y n q → (m ≡ n) × (p ≡ q)
@@ -236,13 +294,14 @@ pub one-writing : {b : Board} {entry : List ℕ} {at m n j k : ℕ} {x y : List 
 one-writing = write-unique
 
 -- a sound board has one file, and what is written is that file; reading it gives that board; every other file is refused
-pub file-written : {b : Board} {entry exit : List ℕ} {at len : ℕ} → WriteAnswer b entry at exit 0 len → take len (drop at exit) ≡ fileOf (tablesOf b)
+pub file-written : {b : Board} {entry exit : List ℕ} {at len : ℕ} → WriteAnswer b entry at exit 0 len → take len (drop at exit) ≡ fileOf (tablesOf b) (b .rights)
 file-written = written-file
 
-pub file-read : (b : Board) → SoundBoard b → {number : ℕ} {board : Board} → ReadAnswer (fileOf (tablesOf b)) number board → (number ≡ 0) × (board ≡ b)
+pub file-read : (b : Board) → SoundBoard b → {number : ℕ} {board : Board} → ReadAnswer (fileOf (tablesOf b) (b .rights)) number board → (number ≡ 0) × (board ≡ b)
 file-read = reads-back
 
-pub file-accepted : {f : List ℕ} {number : ℕ} {board : Board} → ReadAnswer f number board → (number ≡ 0) ↔ ((t : Tables) × (f ≡ fileOf t) × Sound t)
+pub file-accepted : {f : List ℕ} {number : ℕ} {board : Board} → ReadAnswer f number board
+    → (number ≡ 0) ↔ ((t : Tables) × ((rights : List ℕ) × (f ≡ fileOf t rights) × Sound t × RightsFit (t .live) rights))
 file-accepted = accepted
 
 -- ---- demand 3: on every board reached, each live role but 0 has one line manager, and the way up by them ends at role 0

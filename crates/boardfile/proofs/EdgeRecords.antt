@@ -9,8 +9,8 @@ use native.Mathlib.Nat.{zero-add, le-antisymm}
 use native.Mathlib.Numerals.{add-one, towards-suc}
 use native.Mathlib.Omega.{arith}
 use lib.Dec.{eqb, lit<}
-use lib.ListN.{length, getD, take, drop, set, replicate, length-set, length-replicate}
-use lib.Seq.{take-add, drop-drop, getD-take, getD-set-same, getD-set-other, length-take-le}
+use lib.ListN.{length, take, drop, set, replicate, length-set, length-replicate}
+use lib.Seq.{take-add, drop-drop, getD-set-same, getD-set-other}
 use Rattle.sets.specs.Sets.{bit, _isIn_, same?}
 use Rattle.sets.proofs.Bools.{not-so, false-no}
 use Rattle.sets.proofs.Digits.{bit-zero}
@@ -19,10 +19,11 @@ use Rattle.hierarchy.specs.Tables.{tables, row, kindOf, kind, IsTable, hasI, ha
 use Rattle.hierarchy.proofs.Derive.{bit-i, bit-a}
 use Rattle.boardfile.specs.Files.{from, edgeBytes, records, kindAt}
 use Rattle.boardfile.specs.Faults.{byte, senior, junior, kindByte, place, Listed, BadRecord, BadRecord.no-senior, BadRecord.no-junior, BadRecord.itself, BadRecord.no-kind, BadRecord.edge-order}
-use Rattle.boardfile.specs.Parts.{GoodFrame, GoodRoles, Spelt, Right, Wrong, Wrong.dead-senior, Wrong.dead-junior, Wrong.same, Wrong.unknown, Fine, GoodEdges}
-use Rattle.boardfile.proofs.Ascending.{from-at}
+use Rattle.boardfile.specs.Parts.{Announced, GoodRoles, Spelt, Right, Wrong, Wrong.dead-senior, Wrong.dead-junior, Wrong.same, Wrong.unknown, Fine, GoodEdges}
 use Rattle.boardfile.proofs.Bytes.{bytes, take-bytes, edge-next, edge-end}
+use Rattle.boardfile.proofs.FoundingRights.{blank-at}
 use Rattle.boardfile.proofs.RoleBytes.{past, late}
+use Rattle.boardfile.proofs.RoleBytes.{listed-lives as lives}
 
 -- ---- one entry more in a table: u is the new row of s, which has j besides where part is true
 
@@ -103,11 +104,6 @@ pub record SoFar (f : List ℕ) (n m live k next : ℕ) (i a : List ℕ) : Type 
   pub i-table : IsTable i
   pub a-table : IsTable a
 
-blank-at : (n x : ℕ) → row (replicate n 0) x ≡ 0
-blank-at zero x = refl
-blank-at (suc n) zero = refl
-blank-at (suc n) (suc x) = blank-at n x
-
 blank-table : IsTable (replicate 64 0)
 blank-table = record { rows = length-replicate {A = ℕ} 64 0; fits = λ x. rw (blank-at 64 x) (lit< tt) }
 
@@ -129,7 +125,7 @@ edges-start f n m live = record {
 }
 
 -- record k, as it is read
-module _ {f : List ℕ} {n m s j d : ℕ} (k : ℕ) (good : GoodFrame f n m) (spelt : Spelt f (n + 3 * k) s j d) where
+module _ {f : List ℕ} {n m s j d : ℕ} (k : ℕ) (good : Announced f n m) (spelt : Spelt f (n + 3 * k) s j d) where
   pub senior-is : s ≡ senior f k
   unfolding senior
   senior-is = spelt .senior-is ∙ ap (λ (r : ℕ). byte f (r + 3 * k)) (sym (good .roles))
@@ -145,7 +141,7 @@ module _ {f : List ℕ} {n m s j d : ℕ} (k : ℕ) (good : GoodFrame f n m) (sp
   place-is : s * 64 + j ≡ place f k
   place-is = ap₂ (λ (x y : ℕ). x * 64 + y) senior-is junior-is
 
-module _ {f : List ℕ} {n m live k next s j d : ℕ} {i a : List ℕ} (good : GoodFrame f n m) (inv : SoFar f n m live k next i a) (inside : k < m) (spelt : Spelt f (n + 3 * k) s j d) where
+module _ {f : List ℕ} {n m live k next s j d : ℕ} {i a : List ℕ} (good : Announced f n m) (inv : SoFar f n m live k next i a) (inside : k < m) (spelt : Spelt f (n + 3 * k) s j d) where
   -- it does not ascend
   pub edges-late : s * 64 + j < next → BadRecord f
   edges-late h =
@@ -154,11 +150,7 @@ module _ {f : List ℕ} {n m live k next s j d : ℕ} {i a : List ℕ} (good : G
 
   -- it is wrong by itself
   listed-lives : GoodRoles f n live → (r : ℕ) → Listed f r → r isIn live
-  listed-lives roles r w =
-      let here : w .at < n = omega (arith, good .roles) in
-      let inside : w .at < length (from 64 0 (bit live)) = subst (λ (l : List ℕ). w .at < length l) (roles .bytes) (omega (arith, length-take-le n f (omega (arith, good .long)))) in
-      subst (λ (x : ℕ). x isIn live) (ap (λ (l : List ℕ). getD l (w .at) 0) (sym (roles .bytes)) ∙ getD-take n f (w .at) 0 here ∙ w .is)
-      (from-at 64 0 (bit live) (w .at) inside .holds)
+  listed-lives roles r w = subst (λ (x : ℕ). x isIn live) (w .is) (lives f n live (roles .bytes) (omega (arith, good .room)) (w .at) (omega (arith, good .roles)))
 
   pub edges-wrong : GoodRoles f n live → Wrong live s j d → BadRecord f
   edges-wrong roles (dead-senior h) =
@@ -181,7 +173,7 @@ module _ {f : List ℕ} {n m live k next s j d : ℕ} {i a : List ℕ} (good : G
         → ((y : ℕ) → bit v y ≡ (bit (row a s) y || (not (eqb d 1) && same? j y)))
         → SoFar f n m live (k + 1) (s * 64 + j + 1) (set i s u) (set a s v)
     edges-turn le u v uf vf ui va = record {
-      bytes = record-bytes f n k (omega (arith, good .long)) ∙ ap₂ _++_ (inv .bytes) last ∙ sym more;
+      bytes = record-bytes f n k (omega (arith, good .room)) ∙ ap₂ _++_ (inv .bytes) last ∙ sym more;
       below = λ e h. ⊎-elim (λ (q : e ≡ s * 64 + j). omega arith) (λ (o : kindAt (tables live i a) e ≢ 0). omega (arith, inv .below e o)) (new-or-old e h);
       fine = λ e h. ⊎-elim (λ (q : e ≡ s * 64 + j). at-place e q) (inv .fine e) (new-or-old e h);
       next-is = add-one (s * 64 + j) ∙ ap suc (place-is k good spelt) ∙ ap (past (place f)) (sym (add-one k));

@@ -1,12 +1,14 @@
 -- A reader starts at Demands, then Theorems; Settled says that each contract allows one answer. The rest is what the proofs stand on.
 pub mod Demands
 pub mod Ascending
+pub mod FoundingRights
 pub mod Bytes
 pub mod Faultless
 pub mod OneFile
 pub mod Frames
 pub mod RoleBytes
 pub mod EdgeRecords
+pub mod RightBytes
 pub mod Readings
 pub mod Puts
 pub mod Writings

@@ -1,12 +1,12 @@
--- Two boards with the same file have the same tables, and where they are sound, they are one board. Assumes nothing.
-use mathlib.Core.Path.{_≡_, sym, ap, ap₂, _∙_, subst}
-use mathlib.Core.Bool.{Bool, false}
+-- Two boards with the same file have the same tables and the same rights, and where they are sound, they are one board. Assumes nothing.
+use mathlib.Core.Path.{_≡_, refl, sym, ap, ap₂, _∙_, subst}
+use mathlib.Core.Bool.{Bool, true, false, cond, not, Bool·not-not}
 use mathlib.Core.Logic.{⊎-elim, _↔_}
-use mathlib.Core.List.{List}
+use mathlib.Core.List.{List, []}
 use Prim.Native.Nat.{ℕ, _+_, _*_, _/_, _%_, _^_, _<_, zero-le}
 use native.Mathlib.Omega.{arith}
 use lib.Dec.{eqb}
-use lib.ListN.{length, getD, take, drop}
+use lib.ListN.{length, getD, take, drop, length-map}
 use lib.Seq.{ext-getD}
 use borrow.Author.Tests.{eqb-true, not-false}
 use Rattle.sets.specs.Sets.{bit}
@@ -15,27 +15,64 @@ use Rattle.sets.proofs.Laws.{ext}
 use Rattle.hierarchy.specs.Tables.{Tables, Shaped, row, kind, hasI, hasA}
 use Rattle.hierarchy.proofs.Derive.{bit-i, bit-a}
 use Rattle.board.specs.Boards.{tablesOf, SoundBoard}
+use Rattle.board.specs.Rights.{rightsOf, RightsFit}
 use Rattle.board.specs.declared.Board.{Board}
 use Rattle.board.proofs.Settled.{one-board as one-sound-board}
-use Rattle.boardfile.specs.Files.{from, records, edge?, edgeBytes, bytesOf, kindAt, fileOf}
-use Rattle.boardfile.specs.Faults.{edgeDistance, roleCount}
-use Rattle.boardfile.specs.Answers.{IsFile}
+use Rattle.boardfile.specs.Files.{from, records, edge?, edgeBytes, kindAt, founding?, fileOf}
+use Rattle.boardfile.specs.Faults.{byte, withRights}
+use Rattle.boardfile.specs.Parts.{bodyLength, Trailed}
+use Rattle.boardfile.specs.Answers.{IsFile, TablesIn}
 use Rattle.boardfile.proofs.Ascending.{from-has, from-settles}
-use Rattle.boardfile.proofs.Bytes.{whole, whole-roles, whole-edges, edge-distance, role-count, records-length, records-at}
+use Rattle.boardfile.proofs.Bytes.{whole, whole-roles, whole-edges, whole-rights, whole-trailed, file-whole, rolesOf, edgesOf, heldOf, map-at, records-length, records-at}
+use Rattle.boardfile.proofs.FoundingRights.{founding-only}
+use Rattle.boardfile.proofs.Frames.{said, trailed-roles}
+
+-- ---- the trailer of a board's file
+
+pub file-trailed : (t : Tables) (rights : List ℕ) → Trailed (founding? rights) (fileOf t rights) (length (rolesOf t rights)) (length (edgesOf t rights))
+file-trailed t rights =
+    subst (λ (f : List ℕ). Trailed (founding? rights) f (length (rolesOf t rights)) (length (edgesOf t rights))) (sym (file-whole t rights))
+    (whole-trailed (rolesOf t rights) (edgesOf t rights) (heldOf t rights) (length-map (rolesOf t rights) (rightsOf rights)) (founding? rights))
 
 -- ---- the parts of a file are read off it
 
-module _ (rs es rs′ es′ : List ℕ) (e : whole rs es ≡ whole rs′ es′) where
-  same-roles : rs ≡ rs′
-  same-roles =
-      let n : length rs ≡ length rs′ = sym (role-count rs es) ∙ ap roleCount e ∙ role-count rs′ es′ in
-      sym (whole-roles rs es) ∙ ap₂ take n e ∙ whole-roles rs′ es′
+edges-settled : (plain : Bool) (n e e′ k : ℕ) → bodyLength plain n e + k ≡ bodyLength plain n e′ + k → e ≡ e′
+unfolding bodyLength
+edges-settled true n e e′ k q = omega arith
+edges-settled false n e e′ k q = omega arith
 
-  same-edges : es ≡ es′
-  same-edges =
-      let n : length rs ≡ length rs′ = ap length same-roles in
-      let m : length es ≡ length es′ = sym (edge-distance rs es) ∙ ap edgeDistance e ∙ edge-distance rs′ es′ in
-      sym (whole-edges rs es) ∙ ap₂ take m (ap₂ drop n e) ∙ whole-edges rs′ es′
+held-long : (plain : Bool) (hs hs′ : List ℕ) → length hs ≡ length hs′ → length (cond plain [] hs) ≡ length (cond plain [] hs′)
+held-long true hs hs′ e = refl
+held-long false hs hs′ e = e
+
+record SameParts (plain : Bool) (rs es hs rs′ es′ hs′ : List ℕ) : Type 0 where
+  roles : rs ≡ rs′
+  edges : es ≡ es′
+  held : cond plain [] hs ≡ cond plain [] hs′
+
+module _ (plain : Bool) (rs es hs rs′ es′ hs′ : List ℕ) (each : length hs ≡ length rs) (each′ : length hs′ ≡ length rs′)
+    (e : whole plain rs es hs ≡ whole plain rs′ es′ hs′) where
+  trailed : Trailed plain (whole plain rs es hs) (length rs) (length es)
+  trailed = whole-trailed rs es hs each plain
+
+  trailed′ : Trailed plain (whole plain rs es hs) (length rs′) (length es′)
+  trailed′ = subst (λ (f : List ℕ). Trailed plain f (length rs′) (length es′)) (sym e) (whole-trailed rs′ es′ hs′ each′ plain)
+
+  roles-long : length rs ≡ length rs′
+  roles-long = sym (trailed-roles trailed) ∙ trailed-roles trailed′
+
+  edges-long : length es ≡ length es′
+  edges-long = edges-settled plain (length rs) (length es) (length es′) (cond plain 6 8)
+      (sym (said plain trailed .long) ∙ said plain trailed′ .long ∙ ap (λ (n : ℕ). bodyLength plain n (length es′) + cond plain 6 8) (sym roles-long))
+
+  same-parts : SameParts plain rs es hs rs′ es′ hs′
+  same-parts = record {
+    roles = sym (whole-roles plain rs es hs) ∙ ap₂ take roles-long e ∙ whole-roles plain rs′ es′ hs′;
+    edges = sym (whole-edges plain rs es hs) ∙ ap₂ take edges-long (ap₂ drop roles-long e) ∙ whole-edges plain rs′ es′ hs′;
+    held = sym (whole-rights plain rs es hs)
+        ∙ ap₂ take (held-long plain hs hs′ (each ∙ roles-long ∙ sym each′)) (ap₂ drop (ap₂ _+_ roles-long edges-long) e)
+        ∙ whole-rights plain rs′ es′ hs′;
+  }
 
 -- ---- so are places and kinds
 
@@ -54,18 +91,12 @@ module _ (kinds others : ℕ → ℕ) (ps qs : List ℕ) (e : records kinds ps �
   same-places : ps ≡ qs
   same-places = ext-getD 0 ps qs same-many (λ i l. same-at i l .0)
 
-module _ (lives living : ℕ → Bool) (kinds others : ℕ → ℕ) (e : bytesOf lives kinds ≡ bytesOf living others) where
-  pub same-lives : (x : ℕ) → x < 64 → lives x ≡ living x
-  unfolding bytesOf
-  same-lives x l =
-      from-settles 64 0 lives living
-      (same-roles (from 64 0 lives) (edgeBytes kinds 4096 0) (from 64 0 living) (edgeBytes others 4096 0) e) x zero-le (omega arith)
-
+module _ (kinds others : ℕ → ℕ) (e : edgeBytes kinds 4096 0 ≡ edgeBytes others 4096 0) where
   records-agree : records kinds (from 4096 0 (edge? kinds)) ≡ records others (from 4096 0 (edge? others))
-  unfolding bytesOf edgeBytes
-  records-agree = same-edges (from 64 0 lives) (edgeBytes kinds 4096 0) (from 64 0 living) (edgeBytes others 4096 0) e
+  unfolding edgeBytes
+  records-agree = e
 
-  pub same-kinds : (x : ℕ) → x < 4096 → kinds x ≡ others x
+  same-kinds : (x : ℕ) → x < 4096 → kinds x ≡ others x
   same-kinds x l = ⊎-elim
       (λ h. let w = from-has 4096 0 (edge? kinds) x h zero-le (omega arith) in
       let same = same-at kinds others (from 4096 0 (edge? kinds)) (from 4096 0 (edge? others)) records-agree (w .at) (w .inside) in
@@ -89,35 +120,70 @@ rows-same : (t t′ : List ℕ) → length t ≡ 64 → length t′ ≡ 64 → (
     → ((x y : ℕ) → x < 64 → y < 64 → bit (row t x) y ≡ bit (row t′ x) y) → t ≡ t′
 rows-same t t′ n n′ s s′ h = ext-getD 0 t t′ (n ∙ sym n′) (λ x l. ext 64 (row t x) (row t′ x) (s x) (s′ x) (λ y m. h x y (omega arith) m))
 
-pub file-injective : (t t′ : Tables) → Shaped t → Shaped t′ → fileOf t ≡ fileOf t′ → t ≡ t′
-unfolding fileOf
-file-injective t t′ s s′ e = λ k. record { live = live k; i = i k; a = a k }
-  where
-    kinds : (x y : ℕ) → x < 64 → y < 64 → kind t x y ≡ kind t′ x y
-    kinds x y l m =
-        sym (at-place t x y m)
-        ∙ same-kinds (bit (t .live)) (bit (t′ .live)) (kindAt t) (kindAt t′) e (x * 64 + y) (omega arith)
-        ∙ at-place t′ x y m
+module _ {t t′ : Tables} {rights rights′ : List ℕ} (s : Shaped t) (s′ : Shaped t′) (fit : RightsFit (t .live) rights) (fit′ : RightsFit (t′ .live) rights′)
+    (e : fileOf t rights ≡ fileOf t′ rights′) where
+  -- one kind of file,
+  alike : founding? rights ≡ founding? rights′
+  alike =
+      let which : not (founding? rights) ≡ not (founding? rights′) =
+      sym (said (founding? rights) (file-trailed t rights) .which) ∙ ap withRights e ∙ said (founding? rights′) (file-trailed t′ rights′) .which in
+      sym (Bool·not-not (founding? rights)) ∙ ap not which ∙ Bool·not-not (founding? rights′)
 
-    live : t .live ≡ t′ .live
-    live = ext 64 (t .live) (t′ .live) (s .live-fits) (s′ .live-fits) (same-lives (bit (t .live)) (bit (t′ .live)) (kindAt t) (kindAt t′) e)
+  -- the same role bytes, edge records and rights bytes
+  parts : SameParts (founding? rights) (rolesOf t rights) (edgesOf t rights) (heldOf t rights) (rolesOf t′ rights′) (edgesOf t′ rights′) (heldOf t′ rights′)
+  parts =
+      same-parts (founding? rights) (rolesOf t rights) (edgesOf t rights) (heldOf t rights) (rolesOf t′ rights′) (edgesOf t′ rights′) (heldOf t′ rights′)
+      (length-map (rolesOf t rights) (rightsOf rights)) (length-map (rolesOf t′ rights′) (rightsOf rights′))
+      (sym (file-whole t rights) ∙ e ∙ file-whole t′ rights′
+      ∙ ap (λ (p : Bool). whole p (rolesOf t′ rights′) (edgesOf t′ rights′) (heldOf t′ rights′)) (sym alike))
 
-    i : t .i ≡ t′ .i
-    i = rows-same (t .i) (t′ .i) (s .i-rows) (s′ .i-rows) (s .i-fits) (s′ .i-fits)
-        (λ x y l m. bit-i t x y ∙ ap hasI (kinds x y l m) ∙ sym (bit-i t′ x y))
+  same-live : t .live ≡ t′ .live
+  same-live = ext 64 (t .live) (t′ .live) (s .live-fits) (s′ .live-fits) (λ x l. from-settles 64 0 (bit (t .live)) (bit (t′ .live)) (parts .roles) x zero-le (omega arith))
 
-    a : t .a ≡ t′ .a
-    a = rows-same (t .a) (t′ .a) (s .a-rows) (s′ .a-rows) (s .a-fits) (s′ .a-fits)
-        (λ x y l m. bit-a t x y ∙ ap hasA (kinds x y l m) ∙ sym (bit-a t′ x y))
+  -- so these tables,
+  pub same-tables : t ≡ t′
+  same-tables = λ k. record { live = same-live k; i = i k; a = a k }
+    where
+      kinds : (x y : ℕ) → x < 64 → y < 64 → kind t x y ≡ kind t′ x y
+      kinds x y l m = sym (at-place t x y m) ∙ same-kinds (kindAt t) (kindAt t′) (parts .edges) (x * 64 + y) (omega arith) ∙ at-place t′ x y m
 
--- a file is the file of one board's tables
-pub one-tables : {f : List ℕ} {t t′ : Tables} → IsFile f t → IsFile f t′ → t ≡ t′
-one-tables {t = t} {t′ = t′} h h′ = file-injective t t′ (h .shaped) (h′ .shaped) (sym (h .bytes) ∙ h′ .bytes)
+      i : t .i ≡ t′ .i
+      i = rows-same (t .i) (t′ .i) (s .i-rows) (s′ .i-rows) (s .i-fits) (s′ .i-fits)
+          (λ x y l m. bit-i t x y ∙ ap hasI (kinds x y l m) ∙ sym (bit-i t′ x y))
 
--- so what holds of them is what holds of any that have this file
-pub named-by : {f : List ℕ} {t : Tables} → IsFile f t → (P : Tables → Type 0) → P t ↔ ((s : Tables) × IsFile f s × P s)
-named-by {t = t} is P = (λ h. (t, is, h), λ w. subst P (one-tables (w .1) is) (w .2))
+      a : t .a ≡ t′ .a
+      a = rows-same (t .a) (t′ .a) (s .a-rows) (s′ .a-rows) (s .a-fits) (s′ .a-fits)
+          (λ x y l m. bit-a t x y ∙ ap hasA (kinds x y l m) ∙ sym (bit-a t′ x y))
+
+  -- and these rights: the founding board's, or as the rights bytes say, with none of who doesn't live
+  pub same-rights : rights ≡ rights′
+  same-rights = ⊎-elim
+      (λ h. founding-only rights (fit .rows) h ∙ sym (founding-only rights′ (fit′ .rows) (sym alike ∙ h)))
+      (λ h. ext-getD 0 rights rights′ (fit .rows ∙ sym (fit′ .rows)) (λ x l. ⊎-elim
+      (λ b. by-bytes (rw h at (parts .held)) x (omega (arith, fit .rows)) b)
+      (λ b. fit .living x b ∙ sym (fit′ .living x (ap (λ (s : ℕ). bit s x) (sym same-live) ∙ b)))
+      (true-or-false (bit (t .live) x))))
+      (true-or-false (founding? rights))
+    where
+      by-bytes : heldOf t rights ≡ heldOf t′ rights′ → (x : ℕ) → x < 64 → bit (t .live) x ≡ true → rightsOf rights x ≡ rightsOf rights′ x
+      by-bytes same x l b =
+          let w = from-has 64 0 (bit (t .live)) x b zero-le (omega arith) in
+          let here = map-at (rightsOf rights) (rolesOf t rights) (w .at) (w .inside) ∙ ap (rightsOf rights) (w .is) in
+          let there = map-at (rightsOf rights′) (rolesOf t′ rights′) (w .at) (subst (λ (l : List ℕ). w .at < length l) (parts .roles) (w .inside))
+          ∙ ap (rightsOf rights′) (ap (λ (l : List ℕ). byte l (w .at)) (sym (parts .roles)) ∙ w .is) in
+          sym here ∙ ap (λ (l : List ℕ). byte l (w .at)) same ∙ there
+
+-- a file is the file of one board's tables and rights
+pub one-tables : {f : List ℕ} {t t′ : Tables} {rights rights′ : List ℕ} → IsFile f t rights → IsFile f t′ rights′ → t ≡ t′
+one-tables h h′ = same-tables (h .shaped) (h′ .shaped) (h .rightful) (h′ .rightful) (sym (h .bytes) ∙ h′ .bytes)
+
+pub one-rights : {f : List ℕ} {t t′ : Tables} {rights rights′ : List ℕ} → IsFile f t rights → IsFile f t′ rights′ → rights ≡ rights′
+one-rights h h′ = same-rights (h .shaped) (h′ .shaped) (h .rightful) (h′ .rightful) (sym (h .bytes) ∙ h′ .bytes)
+
+-- so what holds of the tables is what holds of any that have this file
+pub named-by : {f : List ℕ} {t : Tables} {rights : List ℕ} → IsFile f t rights → (P : Tables → Type 0) → P t ↔ TablesIn f P
+named-by {t = t} {rights = rights} is P = (λ h. (t, (rights, is), h), λ w. subst P (one-tables (w .1 .1) is) (w .2))
 
 -- and a sound board is the only one with its file
-pub one-board : {f : List ℕ} {b c : Board} → IsFile f (tablesOf b) × SoundBoard b → IsFile f (tablesOf c) × SoundBoard c → b ≡ c
-one-board p q = one-sound-board (p .1) (q .1) (one-tables (p .0) (q .0))
+pub one-board : {f : List ℕ} {b c : Board} → IsFile f (tablesOf b) (b .rights) × SoundBoard b → IsFile f (tablesOf c) (c .rights) × SoundBoard c → b ≡ c
+one-board p q = one-sound-board (p .1) (q .1) (one-tables (p .0) (q .0)) (one-rights (p .0) (q .0))

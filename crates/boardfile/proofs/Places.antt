@@ -56,13 +56,13 @@ module _ (t : Tables) (role : ℕ) where
     pub no-records : end - start ≡ 0 → PlaceAnswer t role 0 0 0
     unfolding startOrNone
     no-records z =
-        let n : length (stretchOf t role) ≡ 0 = omega (arith, up-to-it t role (omega arith)) in
+        let n : length (stretchOf t role) ≡ 0 = omega (arith, up-to-it t role) in
         answer-done numbered refl (rw (eq-eqb (length (stretchOf t role)) 0 n), sym n)
 
     pub some-records : end - start ≢ 0 → PlaceAnswer t role 0 start (end - start)
     unfolding startOrNone
     some-records z = answer-done numbered refl
-        (s ∙ rw (ne-eqb (length (stretchOf t role)) 0 (λ n. z (omega (arith, up-to-it t role (omega arith))))), omega (arith, up-to-it t role (omega arith)))
+        (s ∙ rw (ne-eqb (length (stretchOf t role)) 0 (λ n. z (omega (arith, up-to-it t role)))), omega (arith, up-to-it t role))
 
   -- ---- both numbers take less than 16 bits
 
@@ -78,19 +78,20 @@ module _ (t : Tables) (role : ℕ) where
   stands-small start len l p = (omega (arith, p .0, start-small l), omega (arith, p .1, stretch-small))
 
   -- what the place names lies in the file, and is the stretch
-  pub place-inside : role < 64 → startOrNone t role + length (stretchOf t role) ≤ length (fileOf t)
-  unfolding startOrNone
-  place-inside l = cond-elim (λ (n : ℕ). n + length (stretchOf t role) ≤ length (fileOf t)) (eqb (length (stretchOf t role)) 0) 0 (startOf t role)
-      (λ _. omega (arith, up-to-it t role l, stretch-inside t role l)) (λ _. omega (arith, up-to-it t role l, stretch-inside t role l))
+  module _ (rights : List ℕ) (l : role < 64) where
+    pub place-inside : startOrNone t role + length (stretchOf t role) ≤ length (fileOf t rights)
+    unfolding startOrNone
+    place-inside = cond-elim (λ (n : ℕ). n + length (stretchOf t role) ≤ length (fileOf t rights)) (eqb (length (stretchOf t role)) 0) 0 (startOf t role)
+        (λ _. omega (arith, up-to-it t role, stretch-inside t rights role l)) (λ _. omega (arith, up-to-it t role, stretch-inside t rights role l))
 
-  pub place-is : role < 64 → take (length (stretchOf t role)) (drop (startOrNone t role) (fileOf t)) ≡ stretchOf t role
-  unfolding startOrNone
-  place-is l = dite (ℕ-discrete (length (stretchOf t role)) 0)
-      (nothing (stretchOf t role))
-      (λ n.
-      let whole : length (stretchOf t role) ≡ startOf t (role + 1) - startOf t role = omega (arith, up-to-it t role l) in
-      rw (ne-eqb (length (stretchOf t role)) 0 n, whole) (stretch-is t role l))
-    where
-      nothing : (p : List ℕ) → length p ≡ 0 → take (length p) (drop (startOrNone t role) (fileOf t)) ≡ p
-      nothing [] e = refl
-      nothing (x ∷ p) e = absurd (omega arith)
+    pub place-is : take (length (stretchOf t role)) (drop (startOrNone t role) (fileOf t rights)) ≡ stretchOf t role
+    unfolding startOrNone
+    place-is = dite (ℕ-discrete (length (stretchOf t role)) 0)
+        (nothing (stretchOf t role))
+        (λ n.
+        let whole : length (stretchOf t role) ≡ startOf t (role + 1) - startOf t role = omega (arith, up-to-it t role) in
+        rw (ne-eqb (length (stretchOf t role)) 0 n, whole) (stretch-is t rights role l))
+      where
+        nothing : (p : List ℕ) → length p ≡ 0 → take (length p) (drop (startOrNone t role) (fileOf t rights)) ≡ p
+        nothing [] e = refl
+        nothing (x ∷ p) e = absurd (omega arith)

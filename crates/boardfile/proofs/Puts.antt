@@ -42,6 +42,9 @@ put-three bs d out k x y z p e l =
 pub put-six : (d : List ℕ) (x y z u v w : ℕ) → 6 ≤ length d → Put (x ∷ y ∷ z ∷ u ∷ v ∷ w ∷ []) d (set (set (set (set (set (set d 0 x) 1 y) 2 z) 3 u) 4 v) 5 w)
 put-six d x y z u v w l = put-three (x ∷ y ∷ z ∷ []) d (set (set (set d 0 x) 1 y) 2 z) 3 u v w (put-three [] d d 0 x y z refl refl (omega arith)) refl l
 
+pub put-two : (d : List ℕ) (x y : ℕ) → 2 ≤ length d → Put (x ∷ y ∷ []) d (set (set d 0 x) 1 y)
+put-two d x y l = put-more (x ∷ []) d (set d 0 x) 1 y (put-more [] d d 0 x refl refl (omega arith)) refl l
+
 -- a second part behind the first
 pub put-behind : (bs cs d out part : List ℕ) → Put bs d out → Put cs (drop (length bs) out) part → Put (bs ++ cs) d (take (length bs) out ++ part)
 put-behind bs cs d out part p q =
@@ -67,6 +70,19 @@ put-part bs cs d out part a k p e l m q =
         ap (λ (l : List ℕ). l ++ postOf a k out) q
         ∙ append-assoc cs (drop (length cs) (midOf a k out)) (postOf a k out)
         ∙ ap (λ (l : List ℕ). cs ++ l) (sym (drop-append-le (length cs) (midOf a k out) (postOf a k out) enough) ∙ ap (drop (length cs)) (take-append-drop k (drop a out)))
+
+-- a first part in the n bytes that are lent for it, and a last one in all that lie behind
+pub put-first : (bs d part : List ℕ) (n : ℕ) → n ≡ length bs → n ≤ length d → Put bs (midOf 0 (n - 0) d) part → Put bs d (putMid 0 (n - 0) d part)
+put-first bs d part n e l q = put-part [] bs d d part 0 (n - 0) refl refl (omega arith) (omega arith) q
+
+pub put-last : (bs cs d out part : List ℕ) (a : ℕ) → Put bs d out → a ≡ length bs → a + length cs ≤ length d
+    → Put cs (midOf a (length out - a) out) part → Put (bs ++ cs) d (putMid a (length out - a) out part)
+put-last bs cs d out part a p e l q =
+    let long = put-length bs d out p (omega arith) in
+    put-part bs cs d out part a (length out - a) p e (omega arith) (omega arith) q
+
+pub rest-long : (a : ℕ) (out : List ℕ) → length (midOf a (length out - a) out) ≡ length out - a
+rest-long a out = length-take-le (length out - a) (drop a out) (omega (arith, length-drop a out))
 
 -- ---- the members of a set, from the lowest on: rest has those from next on
 

@@ -8,7 +8,7 @@ use native.Mathlib.Nat.{zero-add, not-suc-le-zero, le-antisymm}
 use native.Mathlib.Numerals.{add-one}
 use native.Mathlib.Omega.{arith}
 use lib.Dec.{lit<}
-use lib.ListN.{length, getD, take}
+use lib.ListN.{length, take}
 use lib.Seq.{take-suc, getD-take, length-take-le}
 use Rattle.sets.specs.Sets.{bit, _isIn_, same?}
 use Rattle.sets.proofs.Bools.{not-so, or-cases, or-right, false-no}
@@ -34,6 +34,20 @@ late p (suc j) h = (j, refl, omega arith)
 
 pub other-kept : (s r x : ℕ) → x ≢ r → (bit s x || same? r x) ≡ bit s x
 other-kept s r x n = ap (λ (p : Bool). bit s x || p) (not-so (same? r x) (λ e. n (same-eq r x e))) ∙ or-false (bit s x)
+
+-- ---- role bytes that list a set
+
+module _ (f : List ℕ) (n live : ℕ) (bytes : take n f ≡ from 64 0 (bit live)) (room : n ≤ length f) where
+  pub listed-many : length (from 64 0 (bit live)) ≡ n
+  listed-many = ap length (sym bytes) ∙ length-take-le n f room
+
+  pub listed-at : (k : ℕ) → k < n → byte (from 64 0 (bit live)) k ≡ byte f k
+  listed-at k l = ap (λ (l : List ℕ). byte l k) (sym bytes) ∙ getD-take n f k 0 l
+
+  pub listed-lives : (k : ℕ) → k < n → byte f k isIn live
+  listed-lives k l = subst (λ (x : ℕ). x isIn live) (listed-at k l) (from-at 64 0 (bit live) k (omega (arith, listed-many)) .holds)
+
+-- ---- the loop
 
 pub record SoFar (f : List ℕ) (n k next live : ℕ) : Type 0 where
   pub bytes : take k f ≡ from next 0 (bit live)
@@ -84,6 +98,4 @@ module _ {f : List ℕ} {n k next live : ℕ} (inv : SoFar f n k next live) wher
           ∙ sym (from-end 64 next 0 (bit live) (inv .small) (λ x a b. not-so (bit live x) (λ e. absurd (omega (arith, inv .below x e)))))
 
       root : 0 isIn live
-      root =
-          subst (λ (x : ℕ). x isIn live) (ap (λ (l : List ℕ). getD l 0 0) (sym all) ∙ getD-take n f 0 0 l ∙ first)
-          (from-at 64 0 (bit live) 0 (subst (λ (l : List ℕ). 0 < length l) all (omega (arith, length-take-le n f m))) .holds)
+      root = subst (λ (x : ℕ). x isIn live) first (listed-lives f n live all m 0 l)

@@ -95,8 +95,8 @@ module _ (f : List ℕ) where
   answer-one role r s =
       let e = first-unique (askedRefusals f role role) (r .number) (s .number) (r .numbered) (s .numbered) in
       by-number (r .number)
-      (λ z. let p = r .done z in let q = s .done (sym e ∙ z) in let same = one-tables (p .1) (q .1) in
-      (p .2 ∙ ap (λ (t : Tables). stretchOf t role) same ∙ sym (q .2), p .3 ∙ ap (λ (t : Tables). startOrNone t role) same ∙ sym (q .3)))
+      (λ z. let p = r .done z in let q = s .done (sym e ∙ z) in let same = one-tables (p .1 .1) (q .1 .1) in
+      (p .2 .0 ∙ ap (λ (t : Tables). stretchOf t role) same ∙ sym (q .2 .0), p .2 .1 ∙ ap (λ (t : Tables). startOrNone t role) same ∙ sym (q .2 .1)))
       (λ z. let p = r .refused z in let q = s .refused (λ w. z (e ∙ w)) in (p .0 ∙ sym (q .0), p .1 ∙ sym (q .1)))
 
   -- the bytes, and where they lie

@@ -1,43 +1,45 @@
--- The loops that put role bytes and one senior's edge records. Assumes nothing.
-use mathlib.Core.Path.{_≡_, refl, sym, ap, ap₂, _∙_, subst}
-use mathlib.Core.Bool.{Bool, true, false, not, _&&_, _||_}
-use mathlib.Core.List.{List, [], _∷_, _++_}
-use Prim.Native.Nat.{ℕ, suc, _+_, _-_, _*_, _/_, _%_, _≤_, _<_}
-use native.Mathlib.Nat.{zero-add}
+-- The loops that put role bytes, rights bytes and edge records, and the parts of a file put one behind the other. Assumes nothing.
+use mathlib.Core.Path.{_≡_, refl, sym, ap, ap₂, _∙_, subst, subst₂}
+use mathlib.Core.Bool.{Bool, true, false, cond, not, _&&_, _||_}
+use mathlib.Core.List.{List, [], _∷_, _++_, map, append-assoc, map-append, map-id}
+use Prim.Native.Nat.{ℕ, suc, _+_, _-_, _*_, _/_, _%_, _≤_, _<_, zero-le}
+use native.Mathlib.Nat.{zero-add, le-refl}
 use native.Mathlib.Omega.{arith}
 use lib.Dec.{eqb}
-use lib.ListN.{length, drop, set, length-append, length-drop}
-use lib.Seq.{length-take-le}
+use lib.ListN.{length, set, length-append, length-map, length-set}
 use borrow.Rule.Slice.PartMut.{midOf, putMid}
 use Rattle.sets.specs.Sets.{bit, same?, LowestRole, NoRole}
 use Rattle.hierarchy.specs.Tables.{Tables, row, kindOf, kind}
-use Rattle.boardfile.specs.Files.{from, edge?, edgeBytes, records, kindAt, trailer, bytesOf, fileOf}
-use Rattle.boardfile.specs.Parts.{Put, rowBytes, Room}
+use Rattle.board.specs.Rights.{rightsOf}
+use Rattle.boardfile.specs.Files.{from, edge?, edgeBytes, records, kindAt, trailer, rightsTrailer, edgesBack, fileOf}
+use Rattle.boardfile.specs.Parts.{Put, lastSix, rowBytes, trailerOf, tailOf, tailLength, TailRoom, Room}
 use Rattle.boardfile.proofs.Ascending.{from-mono, from-short}
-use Rattle.boardfile.proofs.Bytes.{records-append, edge-split, edge-same, edge-few, edge-mono}
-use Rattle.boardfile.proofs.Puts.{put-length, put-more, put-three, put-part, Taking, taking-start, taking-next, taking-turn, taking-end}
+use Rattle.boardfile.proofs.Bytes.{records-append, edge-split, edge-same, edge-few, edge-mono, whole, file-whole}
+use Rattle.boardfile.proofs.Puts.{put-length, put-more, put-two, put-three, put-part, put-first, put-last, rest-long, Taking, taking-start, taking-next, taking-turn, taking-end}
 
--- ---- role bytes
+-- ---- a byte for each live role: g says which of a role, itself or its rights
 
-pub record RolesPut (live : ℕ) (d out : List ℕ) (rest k : ℕ) : Type 0 where
+pub record EachPut (g : ℕ → ℕ) (live : ℕ) (d out : List ℕ) (rest k : ℕ) : Type 0 where
   pub next : ℕ
   pub taking : Taking (bit live) 0 rest next
-  pub put : Put (from next 0 (bit live)) d out
+  pub put : Put (map g (from next 0 (bit live))) d out
   pub count : k ≡ length (from next 0 (bit live))
 
-pub roles-put-start : (live : ℕ) (d : List ℕ) → RolesPut live d d live 0
+pub each-put-start : (g : ℕ → ℕ) (live : ℕ) (d : List ℕ) → EachPut g live d d live 0
 unfolding from
-roles-put-start live d = record { next = 0; taking = taking-start (bit live) 0 live (λ y l. ap (bit live) (sym (zero-add y))); put = refl; count = refl }
+each-put-start g live d = record { next = 0; taking = taking-start (bit live) 0 live (λ y l. ap (bit live) (sym (zero-add y))); put = refl; count = refl }
 
-module _ {live rest k : ℕ} {d out : List ℕ} (room : length (from 64 0 (bit live)) ≤ length d) (inv : RolesPut live d out rest k) where
-  pub roles-put-same : length out ≡ length d
-  roles-put-same = put-length (from (inv .next) 0 (bit live)) d out (inv .put) (omega (arith, from-mono (inv .next) 64 0 (bit live) (inv .taking .small)))
+module _ {g : ℕ → ℕ} {live rest k : ℕ} {d out : List ℕ} (room : length (from 64 0 (bit live)) ≤ length d) (inv : EachPut g live d out rest k) where
+  pub each-put-same : length out ≡ length d
+  each-put-same =
+      put-length (map g (from (inv .next) 0 (bit live))) d out (inv .put)
+      (omega (arith, length-map (from (inv .next) 0 (bit live)) g, from-mono (inv .next) 64 0 (bit live) (inv .taking .small)))
 
-  pub roles-put-few : k ≤ 64
-  roles-put-few = omega (arith, inv .count, from-short (inv .next) 0 (bit live), inv .taking .small)
+  pub each-put-few : k ≤ 64
+  each-put-few = omega (arith, inv .count, from-short (inv .next) 0 (bit live), inv .taking .small)
 
-  pub roles-put-end : NoRole rest → Put (from 64 0 (bit live)) d out
-  roles-put-end n = subst (λ (l : List ℕ). Put l d out) (sym (taking-end (inv .taking) n)) (inv .put)
+  pub each-put-end : NoRole rest → Put (map g (from 64 0 (bit live))) d out
+  each-put-end n = subst (λ (l : List ℕ). Put (map g l) d out) (sym (taking-end (inv .taking) n)) (inv .put)
 
   module _ {r : ℕ} (lowest : LowestRole rest r) where
     grows : from (suc r) 0 (bit live) ≡ from (inv .next) 0 (bit live) ++ (r ∷ [])
@@ -46,16 +48,23 @@ module _ {live rest k : ℕ} {d out : List ℕ} (room : length (from 64 0 (bit l
     fits : length (from (inv .next) 0 (bit live)) < length d
     fits = omega (arith, ap length grows, length-append (from (inv .next) 0 (bit live)) (r ∷ []), from-mono (suc r) 64 0 (bit live) (lowest .role))
 
-    pub roles-put-room : k < length out
-    roles-put-room = omega (arith, roles-put-same, inv .count, fits)
+    pub each-put-room : k < length out
+    each-put-room = omega (arith, each-put-same, inv .count, fits)
 
-    pub roles-put-turn : (rest′ : ℕ) → ((y : ℕ) → bit rest′ y ≡ (bit rest y && not (same? r y))) → RolesPut live d (set out k r) rest′ (k + 1)
-    roles-put-turn rest′ less = record {
-      next = suc r;
-      taking = taking-turn (inv .taking) lowest rest′ less;
-      put = subst (λ (l : List ℕ). Put l d (set out k r)) (sym grows) (put-more (from (inv .next) 0 (bit live)) d out k r (inv .put) (inv .count) fits);
-      count = omega (arith, inv .count, ap length grows, length-append (from (inv .next) 0 (bit live)) (r ∷ []));
-    }
+    pub each-put-turn : (rest′ : ℕ) → ((y : ℕ) → bit rest′ y ≡ (bit rest y && not (same? r y))) → EachPut g live d (set out k (g r)) rest′ (k + 1)
+    each-put-turn rest′ less =
+        let old : List ℕ = from (inv .next) 0 (bit live) in
+        let long : length (map g old) ≡ length old = length-map old g in record {
+          next = suc r;
+          taking = taking-turn (inv .taking) lowest rest′ less;
+          put = subst (λ (l : List ℕ). Put l d (set out k (g r))) (sym (ap (map g) grows ∙ map-append g old (r ∷ [])))
+              (put-more (map g old) d out k (g r) (inv .put) (omega (arith, inv .count)) (omega (arith, fits)));
+          count = omega (arith, inv .count, ap length grows, length-append old (r ∷ []));
+        }
+
+pub roles-put-end : {live rest k : ℕ} {d out : List ℕ} → length (from 64 0 (bit live)) ≤ length d → EachPut (λ x. x) live d out rest k → NoRole rest
+    → Put (from 64 0 (bit live)) d out
+roles-put-end {live} {d = d} {out = out} room inv n = subst (λ (l : List ℕ). Put l d out) (map-id (from 64 0 (bit live))) (each-put-end room inv n)
 
 -- ---- the edge records of senior x, by its rows
 
@@ -182,19 +191,79 @@ module _ {t : Tables} {d out : List ℕ} {at x : ℕ} (room : length (edgeBytes 
         → Put (rowBytes x (row (t .i) x) (row (t .a) x)) (midOf at (length out - at) out) part → EdgesPut t d (putMid at (length out - at) out part) (at + n) (x + 1)
     edges-put-turn part n e p = record {
       put = subst (λ (r : List ℕ). Put r d (putMid at (length out - at) out part)) (sym longer)
-          (put-part (edgeBytes (kindAt t) (x * 64) 0) (rowBytes x (row (t .i) x) (row (t .a) x)) d out part at (length out - at) (inv .put) (inv .count)
-          (omega (arith, edges-put-room)) (omega (arith, edges-put-few)) p);
+          (put-last (edgeBytes (kindAt t) (x * 64) 0) (rowBytes x (row (t .i) x) (row (t .a) x)) d out part at (inv .put) (inv .count)
+          (omega (arith, edges-put-room, edges-put-same)) p);
       count = ap (λ (m : ℕ). at + m) e ∙ total;
       within = omega arith;
     }
 
+-- ---- what lies behind the edge records
+
+pub six-left : (d : List ℕ) (x y : ℕ) → 8 ≤ length d → let two = set (set d 0 x) 1 y in 6 ≤ length (midOf 2 (length two - 2) two)
+six-left d x y l = omega (arith, rest-long 2 (set (set d 0 x) 1 y), length-set (set d 0 x) 1 y, length-set d 0 x)
+
+pub rights-trailer-put : (d : List ℕ) (h e r : ℕ) → 8 ≤ length d → (part : List ℕ) → let two = set (set d 0 (h % 256)) 1 (h / 256) in
+    Put (lastSix e r (72 ∷ 82 ∷ [])) (midOf 2 (length two - 2) two) part → Put (rightsTrailer h e r) d (putMid 2 (length two - 2) two part)
+unfolding rightsTrailer lastSix
+rights-trailer-put d h e r l part p =
+    put-last (h % 256 ∷ h / 256 ∷ []) (lastSix e r (72 ∷ 82 ∷ [])) d (set (set d 0 (h % 256)) 1 (h / 256)) part 2 (put-two d (h % 256) (h / 256) (omega arith)) refl l p
+
+tail-long : (plain : Bool) (live : ℕ) (rights : List ℕ) (roles edges : ℕ) → roles ≡ length (from 64 0 (bit live)) → length (tailOf plain live rights roles edges) ≡ tailLength plain roles
+unfolding tailOf tailLength trailerOf trailer rightsTrailer
+tail-long true live rights roles edges e = refl
+tail-long false live rights roles edges e = simp (length-append, length-map) (omega arith)
+
+pub back-few : (n e : ℕ) → edgesBack n e ≤ n + e
+unfolding edgesBack
+back-few n e = go (eqb e 0)
+  where
+    go : (p : Bool) → cond p 0 (n + e) ≤ n + e
+    go true = zero-le
+    go false = le-refl (n + e)
+
+module _ {live roles edges : ℕ} {plain : Bool} {d : List ℕ} (room : TailRoom live plain roles edges d) where
+  module _ (is : plain ≡ true) where
+    pub plain-fits : (edges < 65536) × (roles + edges < 65536) × (6 ≤ length d)
+    unfolding tailLength
+    plain-fits = (omega (arith, room .few), omega (arith, room .few), rw is at (room .enough))
+
+    pub plain-put : (rights out : List ℕ) → Put (lastSix edges (roles + edges) (72 ∷ 72 ∷ [])) d out → Put (tailOf plain live rights roles edges) d out
+    unfolding lastSix tailOf trailerOf trailer
+    plain-put rights out p = rw is p
+
+  module _ (is : plain ≡ false) where
+    pub rights-fit : (roles ≤ 64) × (roles + 8 ≤ length d)
+    unfolding tailLength
+    rights-fit = (omega (arith, room .role-bytes, from-short 64 0 (bit live)), rw is at (room .enough))
+
+    module _ (rights p : List ℕ) (first : Put (map (rightsOf rights) (from 64 0 (bit live))) (midOf 0 (roles - 0) d) p) where
+      abbrev hs : List ℕ
+      hs = map (rightsOf rights) (from 64 0 (bit live))
+
+      abbrev held : List ℕ
+      held = putMid 0 (roles - 0) d p
+
+      held-are : roles ≡ length hs
+      held-are = room .role-bytes ∙ sym (length-map (from 64 0 (bit live)) (rightsOf rights))
+
+      held-put : Put hs d held
+      held-put = put-first hs d p roles held-are (omega (arith, rights-fit)) first
+
+      pub held-long : length held ≡ length d
+      held-long = put-length hs d held held-put (omega (arith, held-are, rights-fit))
+
+      pub rights-put : (e : ℕ) → e ≡ edgesBack roles edges → (q : List ℕ) → Put (rightsTrailer roles e (2 * roles + edges)) (midOf roles (length held - roles) held) q
+          → Put (tailOf plain live rights roles edges) d (putMid roles (length held - roles) held q)
+      unfolding tailOf trailerOf rightsTrailer
+      rights-put e back q second =
+          let two : 2 * roles + edges ≡ roles + edges + roles = omega arith in
+          rw is
+          (put-last hs (trailerOf false roles edges) d held q roles held-put held-are (omega (arith, rights-fit))
+          (subst₂ (λ (b n : ℕ). Put (rightsTrailer roles b n) (midOf roles (length held - roles) held) q) back two second))
+
 -- ---- the three parts
 
-trailer-long : (e r : ℕ) → length (trailer e r) ≡ 6
-unfolding trailer
-trailer-long e r = refl
-
-module _ {t : Tables} {roles edges : ℕ} {d : List ℕ} (room : Room t roles edges d) (p q : List ℕ)
+module _ {t : Tables} {rights : List ℕ} {plain : Bool} {roles edges : ℕ} {d : List ℕ} (room : Room t rights plain roles edges d) (p q : List ℕ)
     (first : Put (from 64 0 (bit (t .live))) (midOf 0 (roles - 0) d) p)
     (second : Put (edgeBytes (kindAt t) 4096 0) (midOf roles (roles + edges - roles) (putMid 0 (roles - 0) d p)) q)
   where
@@ -210,8 +279,11 @@ module _ {t : Tables} {roles edges : ℕ} {d : List ℕ} (room : Room t roles ed
     abbrev two : List ℕ
     two = putMid roles (roles + edges - roles) one q
 
+    abbrev last : List ℕ
+    last = tailOf plain (t .live) rights roles edges
+
     one-put : Put rs d one
-    one-put = put-part [] rs d d p 0 (roles - 0) refl refl (omega (arith, room .role-bytes)) (omega (arith, room .enough)) first
+    one-put = put-first rs d p roles (room .role-bytes) (omega (arith, room .enough)) first
 
     one-long : length one ≡ length d
     one-long = put-length rs d one one-put (omega (arith, room .role-bytes, room .enough))
@@ -226,20 +298,25 @@ module _ {t : Tables} {roles edges : ℕ} {d : List ℕ} (room : Room t roles ed
     two-long : length two ≡ length d
     two-long = put-length (rs ++ es) d two two-put (omega (arith, body, room .enough))
 
-    pub trailer-fits : (edges < 65536) × (roles + edges < 65536) × (6 ≤ length (midOf (roles + edges) (length two - (roles + edges)) two))
-    trailer-fits =
-        let few : length rs ≤ 64 = from-short 64 0 (bit (t .live)) in
-        let some : length es ≤ 12288 = edge-few 4096 0 (kindAt t) in
-        let long = length-take-le (length two - (roles + edges)) (drop (roles + edges) two) (omega (arith, length-drop (roles + edges) two)) in
-        (omega (arith, room .edge-bytes), omega (arith, room .role-bytes, room .edge-bytes), omega (arith, long, two-long, room .enough))
+    pub tail-room : TailRoom (t .live) plain roles edges (midOf (roles + edges) (length two - (roles + edges)) two)
+    tail-room = record {
+      role-bytes = room .role-bytes;
+      few = omega (arith, room .role-bytes, room .edge-bytes, from-short 64 0 (bit (t .live)), edge-few 4096 0 (kindAt t));
+      enough = omega (arith, rest-long (roles + edges) two, two-long, room .enough);
+    }
 
-    pub file-put : (r : List ℕ) → Put (trailer edges (roles + edges)) (midOf (roles + edges) (length two - (roles + edges)) two) r
-        → Put (fileOf t) d (putMid (roles + edges) (length two - (roles + edges)) two r)
-    unfolding fileOf bytesOf
+    -- together they are the file
+    together : rs ++ es ++ last ≡ fileOf t rights
+    unfolding tailOf
+    together =
+        sym (append-assoc (rs ++ es) (cond plain [] (map (rightsOf rights) rs)) (trailerOf plain roles edges))
+        ∙ ap₂ (λ (n e : ℕ). rs ++ es ++ cond plain [] (map (rightsOf rights) rs) ++ trailerOf plain n e) (room .role-bytes) (room .edge-bytes)
+        ∙ ap (λ (p : Bool). whole p rs es (map (rightsOf rights) rs)) (room .which)
+        ∙ sym (file-whole t rights)
+
+    pub file-put : (r : List ℕ) → Put (tailOf plain (t .live) rights roles edges) (midOf (roles + edges) (length two - (roles + edges)) two) r
+        → Put (fileOf t rights) d (putMid (roles + edges) (length two - (roles + edges)) two r)
     file-put r third =
-        let k : ℕ = length two - (roles + edges) in
-        subst (λ (last : List ℕ). Put (rs ++ es ++ last) d (putMid (roles + edges) k two r)) (ap₂ trailer (room .edge-bytes) (ap₂ _+_ (room .role-bytes) (room .edge-bytes)))
-        (put-part (rs ++ es) (trailer edges (roles + edges)) d two r (roles + edges) k two-put (sym body) six (omega (arith, two-long, room .enough)) third)
-      where
-        six : length (trailer edges (roles + edges)) ≤ length two - (roles + edges)
-        six = omega (arith, trailer-long edges (roles + edges), two-long, room .enough)
+        subst (λ (f : List ℕ). Put f d (putMid (roles + edges) (length two - (roles + edges)) two r)) together
+        (put-last (rs ++ es) last d two r (roles + edges) two-put (sym body)
+        (omega (arith, tail-long plain (t .live) rights roles edges (room .role-bytes), room .enough)) third)

@@ -10,6 +10,7 @@ use Rattle.sets.specs.Sets.{_isIn_}
 use Rattle.hierarchy.specs.Tables.{Tables, Shaped}
 use Rattle.hierarchy.specs.Words.{Derives, Scope, OutOfScope, Climb, Loops, Managed}
 use Rattle.hierarchy.specs.First.{First}
+use Rattle.board.specs.Rights.{RightsFit}
 use Rattle.board.specs.Boards.{tablesOf, foundingBoard, SoundBoard}
 use Rattle.board.specs.Commands.{plain, Decided}
 use Rattle.board.specs.Questions.{Answered, Says, Tells, Manages}
@@ -23,26 +24,30 @@ use Rattle.boardfile.specs.declared.commands.Place.the-variants.{Asked, 
 use Rattle.boardfile.specs.Files.{fileOf, stretchOf, startOf}
 use Rattle.boardfile.specs.Faults.{BadFrame, BadRecord}
 
--- f is the file of the board of these tables, whose roles are 0 to 63
-pub record IsFile (f : List ℕ) (t : Tables) : Type 0 where
+-- f is the file of the board of these tables, whose roles are 0 to 63, and of these rights
+pub record IsFile (f : List ℕ) (t : Tables) (rights : List ℕ) : Type 0 where
   pub shaped : Shaped t
-  pub bytes : f ≡ fileOf t
+  pub rightful : RightsFit (t .live) rights
+  pub bytes : f ≡ fileOf t rights
+
+-- what is true of the tables whose file f is; there are no two such (`one-tables`)
+abbrev pub TablesIn : List ℕ → (Tables → Type 0) → Type 0
+TablesIn f P = (t : Tables) × ((rights : List ℕ) × IsFile f t rights) × P t
 
 -- ---- reading: what has neither fault is the file of a board, and that board may have trouble of its own
 
--- Rows 7 and 9 are of the tables whose file these bytes are; there are no two such (`one-tables`).
 abbrev pub refusals : List ℕ → List (ℕ × Type 0)
 refusals f =
     (10, BadFrame f)
     ∷ (11, BadRecord f)
-    ∷ (7, (t : Tables) × IsFile f t × Loops t)
-    ∷ (9, (t : Tables) × IsFile f t × (Managed t → ⊥))
+    ∷ (7, TablesIn f Loops)
+    ∷ (9, TablesIn f (λ t. Managed t → ⊥))
     ∷ []
 
 -- done gives the board, a refusal the founding board
 pub record ReadAnswer (f : List ℕ) (number : ℕ) (board : Board) : Type 0 where
   pub numbered : First (refusals f) number
-  pub done : number ≡ 0 → IsFile f (tablesOf board) × SoundBoard board
+  pub done : number ≡ 0 → IsFile f (tablesOf board) (board .rights) × SoundBoard board
   pub refused : number ≢ 0 → board ≡ foundingBoard
 
 -- the same into a board that is lent: a refusal leaves what was there
@@ -57,7 +62,7 @@ abbrev pub askedRefusals : List ℕ → ℕ → ℕ → List (ℕ × Type 0)
 askedRefusals f x y =
     refusals f
     ++ ((2, (63 < x) ⊎ (63 < y))
-    ∷ (3, (t : Tables) × IsFile f t × ((x isIn t .live → ⊥) ⊎ (y isIn t .live → ⊥)))
+    ∷ (3, TablesIn f (λ t. (x isIn t .live → ⊥) ⊎ (y isIn t .live → ⊥)))
     ∷ [])
 
 -- what is right of the board that the file is read as
@@ -95,7 +100,7 @@ BoundsAnswer f role number start len = Answered (askedRefusals f role role) (OfF
 pub record StretchAnswer (f : List ℕ) (role : ℕ) (part : List ℕ) (start : ℕ) : Type 0 where
   pub number : ℕ
   pub numbered : First (askedRefusals f role role) number
-  pub done : number ≡ 0 → (t : Tables) × IsFile f t × (part ≡ stretchOf t role) × (start ≡ startOrNone t role)
+  pub done : number ≡ 0 → TablesIn f (λ t. (part ≡ stretchOf t role) × (start ≡ startOrNone t role))
   pub refused : number ≢ 0 → (part ≡ []) × (start ≡ 0)
 
 -- They are a part of the caller's own file: `part-at` and `file-at` are where the two lie in memory, a block and a place in it.
@@ -106,13 +111,13 @@ StretchOf f file-at role part part-at =
 -- ---- writing to a place of a buffer
 
 -- row 12: the place is past the end, or there are too few bytes from it on
-pub data NoRoom (t : Tables) (entry : List ℕ) (at : ℕ) : Type 0 where
-  past-end : length entry < at → NoRoom t entry at
-  too-few : length entry - at < length (fileOf t) → NoRoom t entry at
+pub data NoRoom (file : List ℕ) (entry : List ℕ) (at : ℕ) : Type 0 where
+  past-end : length entry < at → NoRoom file entry at
+  too-few : length entry - at < length file → NoRoom file entry at
 
 -- the file stands there, and the bytes before it and after it stay
-abbrev pub Placed : Tables → List ℕ → ℕ → List ℕ → ℕ → Type 0
-Placed t entry at exit len = (len ≡ length (fileOf t)) × (exit ≡ take at entry ++ fileOf t ++ drop (at + length (fileOf t)) entry)
+abbrev pub Placed : List ℕ → List ℕ → ℕ → List ℕ → ℕ → Type 0
+Placed file entry at exit len = (len ≡ length file) × (exit ≡ take at entry ++ file ++ drop (at + length file) entry)
 
 -- no byte is changed
 abbrev pub Unplaced : List ℕ → List ℕ → ℕ → Type 0
@@ -120,12 +125,12 @@ Unplaced entry exit len = (len ≡ 0) × (exit ≡ entry)
 
 -- 1, then 12
 abbrev pub writeRefusals : Board → List ℕ → ℕ → List (ℕ × Type 0)
-writeRefusals b entry at = (1, (SoundBoard b → ⊥)) ∷ (12, NoRoom (tablesOf b) entry at) ∷ []
+writeRefusals b entry at = (1, (SoundBoard b → ⊥)) ∷ (12, NoRoom (fileOf (tablesOf b) (b .rights)) entry at) ∷ []
 
 -- done puts the file there, a refusal leaves every byte, and the length is 0
 pub record WriteAnswer (b : Board) (entry : List ℕ) (at : ℕ) (exit : List ℕ) (number len : ℕ) : Type 0 where
   pub numbered : First (writeRefusals b entry at) number
-  pub done : number ≡ 0 → Placed (tablesOf b) entry at exit len
+  pub done : number ≡ 0 → Placed (fileOf (tablesOf b) (b .rights)) entry at exit len
   pub refused : number ≢ 0 → Unplaced entry exit len
 
 -- ---- a command on the board in a file: read, decided, and written to the start of a buffer

@@ -1,11 +1,12 @@
--- Document 01, part "The board file and its trailer": the bytes of a board, which its tables settle.
+-- Document 01, part "The board file and its trailer", and request 4's sibling: the bytes of a board, which its tables and its rights settle.
 use mathlib.Core.Bool.{Bool, cond, not}
-use mathlib.Core.List.{List, [], _∷_, _++_}
+use mathlib.Core.List.{List, [], _∷_, _++_, map}
 use Prim.Native.Nat.{ℕ, zero, suc, _+_, _*_, _/_, _%_}
 use lib.Dec.{eqb}
 use lib.ListN.{length}
 use Rattle.sets.specs.Sets.{bit}
 use Rattle.hierarchy.specs.Tables.{Tables, kind}
+use Rattle.board.specs.Rights.{rightsOf, foundingRights}
 
 -- the numbers of which f holds, ascending: n numbers are looked at, from k on
 unfoldable pub from : ℕ → ℕ → (ℕ → Bool) → List ℕ
@@ -32,16 +33,37 @@ edgeBytes kinds n k = records kinds (from n k (edge? kinds))
 unfoldable pub trailer : ℕ → ℕ → List ℕ
 trailer e r = e % 256 ∷ e / 256 ∷ r % 256 ∷ r / 256 ∷ 72 ∷ 72 ∷ []
 
--- The whole: role bytes, edge records, trailer. The first edge record lies as far back from the trailer as the records are long, which
--- is 0 where there are none.
+-- The whole of the file HH: role bytes, edge records, trailer. The first edge record lies as far back from the trailer as the records are
+-- long, which is 0 where there are none.
 unfoldable pub bytesOf : (ℕ → Bool) → (ℕ → ℕ) → List ℕ
 bytesOf lives kinds =
     let roles = from 64 0 lives in
     let edges = edgeBytes kinds 4096 0 in
     roles ++ edges ++ trailer (length edges) (length roles + length edges)
 
-unfoldable pub fileOf : Tables → List ℕ
-fileOf t = bytesOf (bit (t .live)) (kindAt t)
+-- request 4's three distances, the rights', the edges' and the roles'; then HR
+unfoldable pub rightsTrailer : ℕ → ℕ → ℕ → List ℕ
+rightsTrailer h e r = h % 256 ∷ h / 256 ∷ e % 256 ∷ e / 256 ∷ r % 256 ∷ r / 256 ∷ 72 ∷ 82 ∷ []
+
+-- how far back the edge records begin where h rights bytes and e bytes of records lie before the trailer: 0 where there is no record
+unfoldable pub edgesBack : ℕ → ℕ → ℕ
+edgesBack h e = cond (eqb e 0) 0 (h + e)
+
+-- The whole of its file HR: role bytes, edge records, a rights byte for each live role, trailer.
+unfoldable pub bytesWith : (ℕ → Bool) → (ℕ → ℕ) → List ℕ → List ℕ
+bytesWith lives kinds rights =
+    let roles = from 64 0 lives in
+    let edges = edgeBytes kinds 4096 0 in
+    let held = map (rightsOf rights) roles in
+    roles ++ edges ++ held ++ rightsTrailer (length held) (edgesBack (length held) (length edges)) (length roles + length edges + length held)
+
+-- whether the rights are the founding board's: role 0 has all five, and nobody else of the 64 any
+unfoldable pub founding? : List ℕ → Bool
+founding? rights = eqb (length (from 64 0 (λ x. not (eqb (rightsOf rights x) (rightsOf foundingRights x))))) 0
+
+-- A board with just these rights has the file HH, every other one HR.
+unfoldable pub fileOf : Tables → List ℕ → List ℕ
+fileOf t rights = cond (founding? rights) (bytesOf (bit (t .live)) (kindAt t)) (bytesWith (bit (t .live)) (kindAt t) rights)
 
 -- the part of it that has the edges of one senior, and where that begins: behind the role bytes and the edges of lower seniors
 unfoldable pub stretchOf : Tables → ℕ → List ℕ

@@ -29,6 +29,7 @@ pub fn command(file: &[u8], c: Command, out: &mut [u8]) -> Commanded
     let mut derives = [0u64; 64];
     let mut derivers = [0u64; 64];
     let mut manager = [0u8; 64];
+    let mut rights = [0u8; 64];
     let f = open(
         file,
         &mut i,
@@ -36,6 +37,7 @@ pub fn command(file: &[u8], c: Command, out: &mut [u8]) -> Commanded
         &mut derives,
         &mut derivers,
         &mut manager,
+        &mut rights,
     );
     if f.number != 0 {
         return Commanded {
@@ -52,6 +54,7 @@ pub fn command(file: &[u8], c: Command, out: &mut [u8]) -> Commanded
         &mut derives,
         &mut derivers,
         &mut manager,
+        &mut rights,
         c,
     );
     if answer.number != 0 {
@@ -61,7 +64,7 @@ pub fn command(file: &[u8], c: Command, out: &mut [u8]) -> Commanded
             len: 0,
         };
     }
-    let w = put(live, &i, &a, out, 0);
+    let w = put(live, &i, &a, &rights, out, 0);
     if w.number != 0 {
         return Commanded {
             place: Place::Writing,

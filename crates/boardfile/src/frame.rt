@@ -1,19 +1,36 @@
-// The frame of a board file: its trailer, and how many role bytes and edge records it announces.
+// The frame of a board file: its trailer, and how many role bytes and edge records it announces, with rights bytes or without.
 ghost use mathlib.Core.Path.{_≡_};
 ghost use Prim.Native.Nat.{_+_, _≤_};
 ghost use lib.ListN.{length};
-ghost use Rattle.boardfile.specs.Faults.{word};
-ghost use Rattle.boardfile.specs.Parts.{Marked, Framing};
+ghost use Rattle.boardfile.specs.Faults.{word, EndsHH, EndsHR};
+ghost use Rattle.boardfile.specs.Files.{edgesBack};
+ghost use Rattle.boardfile.specs.Parts.{Ended, Framing};
 use board::Board;
 
-// the last two bytes of every file
+// the last two bytes of a file without rights bytes, and of one with them
 pub(crate) const MARK: [u8; 2] = *b"HH";
-// the bytes of the trailer
+
+pub(crate) const RIGHTS_MARK: [u8; 2] = *b"HR";
+// the bytes of their trailers
 pub(crate) const TRAILER: usize = 6;
 
+pub(crate) const RIGHTS_TRAILER: usize = 8;
+// the bytes of the longest file without rights bytes
+const PLAIN_FILE: usize = Board::ROLES + 3 * Board::EDGES + TRAILER;
+
 pub(crate) enum Framed {
-    Good { roles: usize, edges: usize },
+    Good {
+        roles: usize,
+        edges: usize,
+        rights: bool,
+    },
     Bad,
+}
+
+enum Ending {
+    Plain,
+    Rights,
+    Other,
 }
 
 // A distance: two bytes, the low one first.
@@ -26,27 +43,30 @@ fn distance(file: &[u8], at: usize) -> usize
     low + 256 * high
 }
 
-// Whether the file ends in the mark.
-fn marked(file: &[u8]) -> bool
+// The mark that the file ends in.
+fn marked(file: &[u8]) -> Ending
     requires { ⌜ 2 ≤ length (now file) ⌝ }
-    ensures { λ r. ⌜ Marked (now (file .entry)) r ⌝ }
+    ensures { λ r. ⌜ Ended (now (file .entry)) r ⌝ }
 {
     let n = file.len();
-    if file[n - 2] != MARK[0] {
-        return false;
+    let first = file[n - 2];
+    let last = file[n - 1];
+    if first == MARK[0] && last == MARK[1] {
+        return Ending::Plain;
     }
-    file[n - 1] == MARK[1]
+    if first == RIGHTS_MARK[0] && last == RIGHTS_MARK[1] {
+        return Ending::Rights;
+    }
+    Ending::Other
 }
 
-// The number of role bytes and of edge records, of a file whose frame is right.
-pub(crate) fn frame(file: &[u8]) -> Framed
+// The frame of a file that ends in HH: what lies between the two distances is the role bytes.
+fn plain_frame(file: &[u8]) -> Framed
+    requires { ⌜ (6 ≤ length (now file)) × EndsHH (now file) ⌝ }
     ensures { λ r. ⌜ Framing (now (file .entry)) r ⌝ }
 {
     let n = file.len();
-    if n < TRAILER || Board::FILE < n {
-        return Framed::Bad;
-    }
-    if !marked(file) {
+    if PLAIN_FILE < n {
         return Framed::Bad;
     }
     let body = n - TRAILER;
@@ -64,5 +84,66 @@ pub(crate) fn frame(file: &[u8]) -> Framed
     Framed::Good {
         roles,
         edges: edges / 3,
+        rights: false,
+    }
+}
+
+// How far before the trailer the edge records begin that lie before so many rights bytes; 0 where there are none.
+pub(crate) fn edges_back(rights: usize, edges: usize) -> usize
+    requires { ⌜ rights + edges ≤ 65535 ⌝ }
+    ensures { λ r. ⌜ r ≡ edgesBack rights edges ⌝ }
+{
+    if edges == 0 {
+        return 0;
+    }
+    rights + edges
+}
+
+// The frame of a file that ends in HR: there are as many role bytes as rights bytes, and what is left is the edge records.
+fn rights_frame(file: &[u8]) -> Framed
+    requires { ⌜ EndsHR (now file) ⌝ }
+    ensures { λ r. ⌜ Framing (now (file .entry)) r ⌝ }
+{
+    let n = file.len();
+    if n < RIGHTS_TRAILER || Board::FILE < n {
+        return Framed::Bad;
+    }
+    let body = n - RIGHTS_TRAILER;
+    if distance(file, n - 4) != body {
+        return Framed::Bad;
+    }
+    let roles = distance(file, body);
+    if roles == 0 || Board::ROLES < roles {
+        return Framed::Bad;
+    }
+    if body < 2 * roles {
+        return Framed::Bad;
+    }
+    let edges = body - 2 * roles;
+    if edges % 3 != 0 {
+        return Framed::Bad;
+    }
+    if distance(file, n - 6) != edges_back(roles, edges) {
+        return Framed::Bad;
+    }
+    Framed::Good {
+        roles,
+        edges: edges / 3,
+        rights: true,
+    }
+}
+
+// The number of role bytes and of edge records, of a file whose frame is right.
+pub(crate) fn frame(file: &[u8]) -> Framed
+    ensures { λ r. ⌜ Framing (now (file .entry)) r ⌝ }
+{
+    if file.len() < TRAILER {
+        return Framed::Bad;
+    }
+    let end = marked(file);
+    match end {
+        Ending::Plain => plain_frame(file),
+        Ending::Rights => rights_frame(file),
+        Ending::Other => Framed::Bad,
     }
 }

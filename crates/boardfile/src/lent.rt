@@ -15,14 +15,16 @@ pub fn read_into(
     derives: &mut [u64; 64],
     derivers: &mut [u64; 64],
     manager: &mut [u8; 64],
+    rights: &mut [u8; 64],
 ) -> u8
-    ensures { λ r. ⌜ ReadInto (now (file .entry)) (boardOf (now (live .entry)) (now (i .entry)) (now (a .entry)) (now (derives .entry)) (now (derivers .entry)) (now (manager .entry))) (boardOf (now (live .exit)) (now (i .exit)) (now (a .exit)) (now (derives .exit)) (now (derivers .exit)) (now (manager .exit))) r ⌝ }
+    ensures { λ r. ⌜ ReadInto (now (file .entry)) (boardOf (now (live .entry)) (now (i .entry)) (now (a .entry)) (now (derives .entry)) (now (derivers .entry)) (now (manager .entry)) (now (rights .entry))) (boardOf (now (live .exit)) (now (i .exit)) (now (a .exit)) (now (derives .exit)) (now (derivers .exit)) (now (manager .exit)) (now (rights .exit))) r ⌝ }
 {
     let mut new_i = [0u64; 64];
     let mut new_a = [0u64; 64];
     let mut down = [0u64; 64];
     let mut up = [0u64; 64];
     let mut managers = [0u8; 64];
+    let mut held = [0u8; 64];
     let f = open(
         file,
         &mut new_i,
@@ -30,6 +32,7 @@ pub fn read_into(
         &mut down,
         &mut up,
         &mut managers,
+        &mut held,
     );
     if f.number != 0 {
         return f.number;
@@ -40,6 +43,7 @@ pub fn read_into(
     *derives = down;
     *derivers = up;
     *manager = managers;
+    *rights = held;
     0
 }
 
@@ -51,13 +55,14 @@ pub fn write_of<'t>(
     derives: &'t [u64; 64],
     derivers: &'t [u64; 64],
     manager: &'t [u8; 64],
+    rights: &'t [u8; 64],
     out: &mut [u8],
     at: usize,
 ) -> Written
-    ensures { λ r. ⌜ WriteAnswer (boardOf live (now (i .entry)) (now (a .entry)) (now (derives .entry)) (now (derivers .entry)) (now (manager .entry))) (now (out .entry)) at (now (out .exit)) (r .number) (r .len) ⌝ }
+    ensures { λ r. ⌜ WriteAnswer (boardOf live (now (i .entry)) (now (a .entry)) (now (derives .entry)) (now (derivers .entry)) (now (manager .entry)) (now (rights .entry))) (now (out .entry)) at (now (out .exit)) (r .number) (r .len) ⌝ }
 {
-    if !sound_of(live, i, a, derives, derivers, manager) {
+    if !sound_of(live, i, a, derives, derivers, manager, rights) {
         return Written { number: 1, len: 0 };
     }
-    put(live, i, a, out, at)
+    put(live, i, a, rights, out, at)
 }

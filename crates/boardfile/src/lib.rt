@@ -2,7 +2,9 @@
 //
 // In order: a byte for each live role, ascending; three bytes for each edge, senior, junior and kind, ascending by senior and then by
 // junior; a trailer of six bytes: how far before the trailer the edge records begin (0 where there are none), how far before it the
-// role bytes begin, each in two bytes, the low one first, and HH.
+// role bytes begin, each in two bytes, the low one first, and HH. That is the file of a board where role 0 holds all rights and nobody
+// else any. Every other board has a rights byte for each live role, ascending, before the trailer, and the trailer has eight bytes: how far
+// before it the rights bytes begin comes first, and it ends in HR.
 //
 // Each function on a file opens it first, which works out what its board keeps; what follows reads it there, so that a board is weighed
 // once.
@@ -12,6 +14,7 @@ pub mod lent;
 mod opening;
 pub mod questions;
 mod reader;
+mod rights;
 pub mod stretches;
 mod writer;
 
@@ -35,6 +38,7 @@ pub fn read(file: &[u8]) -> Reading
     let mut derives = [0u64; 64];
     let mut derivers = [0u64; 64];
     let mut manager = [0u8; 64];
+    let mut rights = [0u8; 64];
     let f = open(
         file,
         &mut i,
@@ -42,6 +46,7 @@ pub fn read(file: &[u8]) -> Reading
         &mut derives,
         &mut derivers,
         &mut manager,
+        &mut rights,
     );
     if f.number != 0 {
         return Reading {
@@ -56,6 +61,7 @@ pub fn read(file: &[u8]) -> Reading
         derives,
         derivers,
         manager,
+        rights,
     };
     Reading { number: 0, board }
 }
@@ -76,6 +82,7 @@ pub fn write(b: Board, out: &mut [u8], at: usize) -> Written
         &b.derives,
         &b.derivers,
         &b.manager,
+        &b.rights,
         out,
         at,
     )

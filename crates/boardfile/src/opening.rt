@@ -6,6 +6,7 @@ use crate::frame::frame;
 use crate::reader::Roles;
 use crate::reader::edges;
 use crate::reader::listed;
+use crate::rights::holdings;
 use hierarchy::working::work_out;
 
 // The number, and the live roles of the board; its tables and what it keeps go to what is lent.
@@ -28,14 +29,17 @@ pub(crate) fn open(
     derives: &mut [u64; 64],
     derivers: &mut [u64; 64],
     manager: &mut [u8; 64],
+    rights: &mut [u8; 64],
 ) -> Opened
-    ensures { λ r. ⌜ Opening (now (file .entry)) (r .number) (r .live) (now (i .exit)) (now (a .exit)) (now (derives .exit)) (now (derivers .exit)) (now (manager .exit)) ⌝ }
+    ensures { λ r. ⌜ Opening (now (file .entry)) (r .number) (r .live) (now (i .exit)) (now (a .exit)) (now (derives .exit)) (now (derivers .exit)) (now (manager .exit)) (now (rights .exit)) ⌝ }
 {
     *i = [0; 64];
     *a = [0; 64];
+    *rights = [0; 64];
     let Framed::Good {
         roles,
         edges: records,
+        rights: with_rights,
     } = frame(file)
     else {
         return refused(10);
@@ -44,6 +48,9 @@ pub(crate) fn open(
         return refused(11);
     };
     if !edges(file, roles, records, live, i, a) {
+        return refused(11);
+    }
+    if !holdings(file, roles, records, with_rights, live, rights) {
         return refused(11);
     }
     let trouble = work_out(live, i, a, derives, derivers, manager);

@@ -21,6 +21,7 @@ pub fn check(file: &[u8]) -> u8
     let mut derives = [0u64; 64];
     let mut derivers = [0u64; 64];
     let mut manager = [0u8; 64];
+    let mut rights = [0u8; 64];
     open(
         file,
         &mut i,
@@ -28,6 +29,7 @@ pub fn check(file: &[u8]) -> u8
         &mut derives,
         &mut derivers,
         &mut manager,
+        &mut rights,
     ).number
 }
 
@@ -40,6 +42,7 @@ pub fn derives(file: &[u8], x: u32, y: u32) -> Derived
     let mut derives = [0u64; 64];
     let mut derivers = [0u64; 64];
     let mut manager = [0u8; 64];
+    let mut rights = [0u8; 64];
     let f = open(
         file,
         &mut i,
@@ -47,6 +50,7 @@ pub fn derives(file: &[u8], x: u32, y: u32) -> Derived
         &mut derives,
         &mut derivers,
         &mut manager,
+        &mut rights,
     );
     if f.number != 0 {
         return Derived {
@@ -66,6 +70,7 @@ pub fn scope(file: &[u8], a: u32, r: u32) -> Scoped
     let mut derives = [0u64; 64];
     let mut derivers = [0u64; 64];
     let mut manager = [0u8; 64];
+    let mut rights = [0u8; 64];
     let f = open(
         file,
         &mut by_i,
@@ -73,6 +78,7 @@ pub fn scope(file: &[u8], a: u32, r: u32) -> Scoped
         &mut derives,
         &mut derivers,
         &mut manager,
+        &mut rights,
     );
     if f.number != 0 {
         return Scoped {
@@ -95,6 +101,7 @@ pub fn line_manager(file: &[u8], r: u32) -> Managed
     let mut derives = [0u64; 64];
     let mut derivers = [0u64; 64];
     let mut manager = [0u8; 64];
+    let mut rights = [0u8; 64];
     let f = open(
         file,
         &mut i,
@@ -102,6 +109,7 @@ pub fn line_manager(file: &[u8], r: u32) -> Managed
         &mut derives,
         &mut derivers,
         &mut manager,
+        &mut rights,
     );
     if f.number != 0 {
         return Managed {
@@ -121,6 +129,7 @@ pub fn steps(file: &[u8], r: u32) -> Stepped
     let mut derives = [0u64; 64];
     let mut derivers = [0u64; 64];
     let mut manager = [0u8; 64];
+    let mut rights = [0u8; 64];
     let f = open(
         file,
         &mut i,
@@ -128,6 +137,7 @@ pub fn steps(file: &[u8], r: u32) -> Stepped
         &mut derives,
         &mut derivers,
         &mut manager,
+        &mut rights,
     );
     if f.number != 0 {
         return Stepped {

@@ -6,7 +6,7 @@ ghost use Prim.Native.Nat.{ℕ, _+_, _≤_};
 ghost use lib.ListN.{length, replicate};
 ghost use Rattle.sets.specs.Sets.{bit, same?};
 ghost use Rattle.boardfile.specs.Faults.{roleCount};
-ghost use Rattle.boardfile.specs.Parts.{Listing, Spelt, Judged, GoodFrame, GoodRoles, Entering};
+ghost use Rattle.boardfile.specs.Parts.{Listing, Spelt, Judged, Announced, GoodRoles, Entering};
 use sets::has;
 use sets::with;
 
@@ -97,7 +97,7 @@ pub(crate) fn edges(
     i: &mut [u64; 64],
     a: &mut [u64; 64],
 ) -> bool
-    requires { ⌜ GoodFrame (now file) n m × GoodRoles (now file) n live × (now i ≡ replicate 64 0) × (now a ≡ replicate 64 0) ⌝ }
+    requires { ⌜ Announced (now file) n m × GoodRoles (now file) n live × (now i ≡ replicate 64 0) × (now a ≡ replicate 64 0) ⌝ }
     ensures { λ r. ⌜ Entering (now (file .entry)) n m live r (now (i .exit)) (now (a .exit)) ⌝ }
 {
     let mut next: usize = 0;

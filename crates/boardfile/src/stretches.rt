@@ -69,6 +69,7 @@ pub fn bounds(file: &[u8], role: u32) -> Span
     let mut derives = [0u64; 64];
     let mut derivers = [0u64; 64];
     let mut manager = [0u8; 64];
+    let mut rights = [0u8; 64];
     let f = open(
         file,
         &mut i,
@@ -76,6 +77,7 @@ pub fn bounds(file: &[u8], role: u32) -> Span
         &mut derives,
         &mut derivers,
         &mut manager,
+        &mut rights,
     );
     if f.number != 0 {
         return nothing(f.number);

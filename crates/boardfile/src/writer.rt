@@ -5,11 +5,16 @@ ghost use lib.ListN.{length};
 ghost use Rattle.sets.specs.Sets.{bit};
 ghost use Rattle.hierarchy.specs.Tables.{tables, kindOf};
 ghost use Rattle.board.specs.Boards.{tablesOf};
-ghost use Rattle.boardfile.specs.Files.{from, edge?, edgeBytes, kindAt, trailer, fileOf};
-ghost use Rattle.boardfile.specs.Parts.{kindsIn, rowBytes, Put, Room, PutAnswer};
+ghost use Rattle.boardfile.specs.Files.{from, edge?, edgeBytes, kindAt, rightsTrailer, fileOf};
+ghost use Rattle.boardfile.specs.Parts.{kindsIn, rowBytes, Put, lastSix, tailOf, tailLength, TailRoom, Room, PutAnswer};
 use crate::Written;
 use crate::frame::MARK;
+use crate::frame::RIGHTS_MARK;
+use crate::frame::RIGHTS_TRAILER;
 use crate::frame::TRAILER;
+use crate::frame::edges_back;
+use crate::rights::founding;
+use crate::rights::put_rights;
 use board::Board;
 use sets::Pick;
 use sets::but_lowest;
@@ -104,17 +109,46 @@ fn put_edges<'t>(i: &'t [u64; 64], a: &'t [u64; 64], out: &mut [u8])
     }
 }
 
-// The trailer, by its two distances.
-fn put_trailer(edges: usize, roles: usize, out: &mut [u8])
+// The last six bytes of a file, by its distances of edge records and of role bytes and by its very last byte.
+fn put_trailer(edges: usize, roles: usize, mark: [u8; 2], out: &mut [u8])
     requires { ⌜ (edges < 65536) × (roles < 65536) × (6 ≤ length (now out)) ⌝ }
-    ensures { λ _. ⌜ Put (trailer edges roles) (now (out .entry)) (now (out .exit)) ⌝ }
+    ensures { λ _. ⌜ Put (lastSix edges roles mark) (now (out .entry)) (now (out .exit)) ⌝ }
 {
     out[0] = (edges % 256) as u8;
     out[1] = (edges / 256) as u8;
     out[2] = (roles % 256) as u8;
     out[3] = (roles / 256) as u8;
-    out[4] = MARK[0];
-    out[5] = MARK[1];
+    out[4] = mark[0];
+    out[5] = mark[1];
+}
+
+// The trailer of a file with rights bytes, by its three distances.
+fn put_rights_trailer(rights: usize, edges: usize, roles: usize, out: &mut [u8])
+    requires { ⌜ (rights < 65536) × (edges < 65536) × (roles < 65536) × (8 ≤ length (now out)) ⌝ }
+    ensures { λ _. ⌜ Put (rightsTrailer rights edges roles) (now (out .entry)) (now (out .exit)) ⌝ }
+{
+    out[0] = (rights % 256) as u8;
+    out[1] = (rights / 256) as u8;
+    put_trailer(edges, roles, RIGHTS_MARK, &mut out[2..]);
+}
+
+// What lies behind the edge records in a file with so many role bytes and so many bytes of records: the trailer, and before it the
+// rights bytes where the board's rights aren't the founding ones.
+fn put_tail(live: u64, rights: &[u8; 64], plain: bool, roles: usize, edges: usize, out: &mut [u8])
+    requires { ⌜ TailRoom live plain roles edges (now out) ⌝ }
+    ensures { λ _. ⌜ Put (tailOf plain live (now (rights .entry)) roles edges) (now (out .entry)) (now (out .exit)) ⌝ }
+{
+    if plain {
+        put_trailer(edges, roles + edges, MARK, out);
+        return;
+    }
+    put_rights(live, rights, &mut out[0..roles]);
+    put_rights_trailer(
+        roles,
+        edges_back(roles, edges),
+        2 * roles + edges,
+        &mut out[roles..],
+    );
 }
 
 // The whole file of a board that has so many role bytes and so many bytes of edge records.
@@ -122,35 +156,50 @@ fn put_file<'t>(
     live: u64,
     i: &'t [u64; 64],
     a: &'t [u64; 64],
+    rights: &'t [u8; 64],
+    plain: bool,
     roles: usize,
     edges: usize,
     out: &mut [u8],
 )
-    requires { ⌜ Room (tables live (now i) (now a)) roles edges (now out) ⌝ }
-    ensures { λ _. ⌜ Put (fileOf (tables live (now (i .entry)) (now (a .entry)))) (now (out .entry)) (now (out .exit)) ⌝ }
+    requires { ⌜ Room (tables live (now i) (now a)) (now rights) plain roles edges (now out) ⌝ }
+    ensures { λ _. ⌜ Put (fileOf (tables live (now (i .entry)) (now (a .entry))) (now (rights .entry))) (now (out .entry)) (now (out .exit)) ⌝ }
 {
     let body = roles + edges;
     put_roles(live, &mut out[0..roles]);
     put_edges(i, a, &mut out[roles..body]);
-    put_trailer(edges, body, &mut out[body..]);
+    put_tail(live, rights, plain, roles, edges, &mut out[body..]);
 }
 
-// The file of the board of these tables, sound or not, into a buffer, from a place on.
+// The bytes behind the edge records.
+fn tail_len(plain: bool, roles: usize) -> usize
+    requires { ⌜ roles ≤ 64 ⌝ }
+    ensures { λ r. ⌜ r ≡ tailLength plain roles ⌝ }
+{
+    if plain {
+        return TRAILER;
+    }
+    roles + RIGHTS_TRAILER
+}
+
+// The file of the board of these tables and rights, sound or not, into a buffer, from a place on.
 pub(crate) fn put<'t>(
     live: u64,
     i: &'t [u64; 64],
     a: &'t [u64; 64],
+    rights: &'t [u8; 64],
     out: &mut [u8],
     at: usize,
 ) -> Written
-    ensures { λ r. ⌜ PutAnswer (tables live (now (i .entry)) (now (a .entry))) (now (out .entry)) at (now (out .exit)) (r .number) (r .len) ⌝ }
+    ensures { λ r. ⌜ PutAnswer (fileOf (tables live (now (i .entry)) (now (a .entry))) (now (rights .entry))) (now (out .entry)) at (now (out .exit)) (r .number) (r .len) ⌝ }
 {
     let roles = size(live) as usize;
     let edges = 3 * edges_below(i, a, 64);
-    let len = roles + edges + TRAILER;
+    let plain = founding(rights);
+    let len = roles + edges + tail_len(plain, roles);
     if out.len() < at || out.len() - at < len {
         return Written { number: 12, len: 0 };
     }
-    put_file(live, i, a, roles, edges, &mut out[at..]);
+    put_file(live, i, a, rights, plain, roles, edges, &mut out[at..]);
     Written { number: 0, len }
 }

@@ -1,36 +1,36 @@
 -- The computed number of a command is the number that document 01's table of refusals gives it, and its 6 names whom the test says.
 -- Assumes nothing.
 use mathlib.Core.Path.{_≡_, refl, sym, subst, subst₂}
-use mathlib.Core.Logic.{inl, inr, ⊎-elim, _↔_, Iff·rfl, Iff·trans, _≢_}
+use mathlib.Core.Logic.{inl, inr, ⊎-elim, _↔_, Iff·trans, _≢_}
 use mathlib.Core.Bool.{Bool, true, false, cond, false≢true}
 use mathlib.Core.List.{List, [], _∷_}
-use Prim.Native.Nat.{ℕ, _^_, _≤_, _<_}
+use Prim.Native.Nat.{ℕ, suc, _^_, _≤_, _<_}
 use native.Mathlib.Omega.{arith}
-use lib.Dec.{ltb}
+use lib.Dec.{eqb, ltb, leb}
+use borrow.Author.Tests.{eqb-true, leb-true, leb-false}
 use Rattle.sets.specs.Sets.{bit}
-use Rattle.sets.proofs.Bools.{or-cases, lt-or-ge, not-so, false-no}
+use Rattle.sets.proofs.Bools.{or-cases, lt-or-ge, not-so, false-no, cond-elim}
 use Rattle.sets.proofs.Laws.{bit-lt}
 use Rattle.hierarchy.specs.Tables.{Tables, Shaped}
-use Rattle.hierarchy.specs.Words.{Scope, OutOfScope, Sound}
+use Rattle.hierarchy.specs.Words.{Derives, Scope, OutOfScope, Joined, Sound}
 use Rattle.hierarchy.specs.First.{First}
 use Rattle.hierarchy.proofs.FirstLaws.{pass, passed, hit, none}
 use Rattle.hierarchy.proofs.Checks.{all-is, any-is, and-is, or-is, if-is, not-is, eq-is, lt-is, le-is}
-use Rattle.hierarchy.proofs.Decide.{scope-is, out-of-scope-is, admin-is, loops-is, managed-is, sound-is, sound-dec}
-use Rattle.board.specs.Boards.{tablesOf, KeepsRight, SoundBoard}
+use Rattle.hierarchy.proofs.Decide.{derives-is, scope-is, out-of-scope-is, admin-is, managed-is}
+use Rattle.hierarchy.proofs.Order.{joined-loops}
 use Rattle.board.specs.Effects.{after}
-use Rattle.board.specs.Commands.{Fits, Malformed, Missing, PartsStand, Standing, Lacking, InScope, Outside, asSenior, asJunior, needed, scoped, strictly, conditions, Breaks, Offends, Because, Blames, afterwards, onTables, refusals}
-use Rattle.board.specs.Commands.{Malformed.no-code, Malformed.no-actor, Malformed.no-role, Malformed.no-junior, Malformed.no-kind, Offends.here, Offends.later, Because.out, Because.itself}
+use Rattle.board.specs.Rights.{rightsOf, MayUse, MayUse.own, MayUse.derived, asks, Entitled}
+use Rattle.board.specs.Commands.{namesEdge, namesRights, Fits, Malformed, Missing, PartsStand, Standing, Lacking, InScope, Outside, asSenior, asJunior, needed, scoped, strictly, conditions, Breaks, Offends, Because, Blames, afterwards, onTables}
+use Rattle.board.specs.Commands.{Malformed.no-code, Malformed.no-actor, Malformed.no-role, Malformed.no-junior, Malformed.no-kind, Malformed.no-rights, Offends.here, Offends.later, Because.out, Because.itself}
 use Rattle.board.proofs.Offenders.{Small, all-small}
-use Rattle.board.proofs.Rules.{stable, first-alike, first-without}
-use Rattle.board.proofs.SoundAfter.{shaped-after}
-use Rattle.board.proofs.Trying.{parts-row, edge-row, standing-row, lacking-row}
-use Rattle.board.specs.declared.Board.{Board}
+use Rattle.board.proofs.Edits.{tables-stay}
+use Rattle.board.proofs.SoundAfter.{shaped-after, joined-after}
+use Rattle.board.proofs.TakingBack.{sound-passes}
+use Rattle.board.proofs.Trying.{rights-lt, parts-row, edge-row, standing-row, lacking-row}
 use Rattle.board.specs.declared.Command.{Command}
-use Rattle.examples.specs.Answer.{malformed?, missing?, partsStand?, linked?, standing?, lacking?, inScope?, outside?, first?, afterwards?, answer?, other?, breaks?, because?, offends?, blames?, fits?}
+use Rattle.examples.specs.Answer.{left, malformed?, missing?, partsStand?, linked?, standing?, lacking?, mayUse?, entitled?, inScope?, outside?, first?, afterwards?, answer?, other?, breaks?, because?, offends?, blames?, fits?}
 use Rattle.examples.proofs.Leaving.{left-is}
-
-is : (p : Bool) → (p ≡ true) ↔ (p ≡ true)
-is p = Iff·rfl
+use Rattle.examples.proofs.Ordering.{is, liveLoops-is}
 
 fit-is : (s : ℕ) → (ltb s (2 ^ 64) ≡ true) ↔ (s < 2 ^ 64)
 fit-is s = lt-is s (2 ^ 64)
@@ -45,20 +45,22 @@ fits-is c =
 
 -- ---- a row each
 
-malformed-is : (c : Command) → (malformed? c ≡ true) ↔ Malformed c
+pub malformed-is : (c : Command) → (malformed? c ≡ true) ↔ Malformed c
 unfolding malformed?
 malformed-is c =
-    let code = or-is (lt-is (c .code) 1) (lt-is 5 (c .code)) in
-    let junior = and-is (le-is 3 (c .code)) (λ _. lt-is 63 (c .junior)) in
-    let kind = and-is (le-is 3 (c .code)) (λ _. or-is (lt-is (c .kind) 1) (lt-is 3 (c .kind))) in
-    let i = or-is code (or-is (lt-is 63 (c .actor)) (or-is (lt-is 63 (c .role)) (or-is junior kind))) in (
-      λ e. ⊎-elim no-code (⊎-elim no-actor (⊎-elim no-role (⊎-elim (λ h. no-junior (h .0) (h .1)) (λ h. no-kind (h .0) (h .1))))) (i .0 e),
+    let code = or-is (lt-is (c .code) 1) (lt-is 7 (c .code)) in
+    let junior = and-is (is (namesEdge c)) (λ _. lt-is 63 (c .junior)) in
+    let kind = and-is (is (namesEdge c)) (λ _. or-is (lt-is (c .kind) 1) (lt-is 3 (c .kind))) in
+    let rights = and-is (is (namesRights c)) (λ _. lt-is 31 (c .rights)) in
+    let i = or-is code (or-is (lt-is 63 (c .actor)) (or-is (lt-is 63 (c .role)) (or-is junior (or-is kind rights)))) in (
+      λ e. ⊎-elim no-code (⊎-elim no-actor (⊎-elim no-role (⊎-elim (λ h. no-junior (h .0) (h .1)) (⊎-elim (λ h. no-kind (h .0) (h .1)) (λ h. no-rights (h .0) (h .1)))))) (i .0 e),
       λ m. i .1 (elim m [
         | no-code h ↦ inl h
         | no-actor h ↦ inr (inl h)
         | no-role h ↦ inr (inr (inl h))
         | no-junior e h ↦ inr (inr (inr (inl (e, h))))
-        | no-kind e h ↦ inr (inr (inr (inr (e, h))))
+        | no-kind e h ↦ inr (inr (inr (inr (inl (e, h)))))
+        | no-rights e h ↦ inr (inr (inr (inr (inr (e, h)))))
       ]),
     )
 
@@ -95,14 +97,14 @@ module _ {c : Command} (fits : Fits c) (well : Malformed c → ⊥) (x : ℕ) wh
   role-lt : x ≡ c .role → x < 64
   role-lt = below x (c .role) (λ g. well (no-role g))
 
-  end-lt : 3 ≤ c .code → x ≡ c .junior → x < 64
+  end-lt : namesEdge c ≡ true → x ≡ c .junior → x < 64
   end-lt l = below x (c .junior) (λ g. well (no-junior l g))
 
   needed-lt : needed c x ≡ true → x < 64
   unfolding needed
   needed-lt e =
       let sets = and-is (eq-is (c .code) 1) (λ _. or-is (is (asSenior c x)) (is (asJunior c x))) in
-      let ends = or-is (and-is (le-is 2 (c .code)) (λ _. eq-is x (c .role))) (and-is (le-is 3 (c .code)) (λ _. eq-is x (c .junior))) in
+      let ends = or-is (and-is (le-is 2 (c .code)) (λ _. eq-is x (c .role))) (and-is (is (namesEdge c)) (λ _. eq-is x (c .junior))) in
       ⊎-elim (below x (c .actor) (λ g. well (no-actor g)))
       (⊎-elim (λ h. ⊎-elim senior-lt junior-lt (h .1)) (⊎-elim (λ h. role-lt (h .1)) (λ h. end-lt (h .0) (h .1))))
       (or-is (eq-is x (c .actor)) (or-is sets ends) .0 e)
@@ -111,8 +113,8 @@ module _ {c : Command} (fits : Fits c) (well : Malformed c → ⊥) (x : ℕ) wh
   unfolding scoped
   scoped-lt e =
       let seniors = and-is (eq-is (c .code) 1) (λ _. is (asSenior c x)) in
-      let ends = and-is (le-is 3 (c .code)) (λ _. or-is (eq-is x (c .role)) (eq-is x (c .junior))) in
-      ⊎-elim (λ h. senior-lt (h .1)) (λ h. ⊎-elim role-lt (end-lt (h .0)) (h .1)) (or-is seniors ends .0 e)
+      let ends = or-is (and-is (le-is 3 (c .code)) (λ _. eq-is x (c .role))) (and-is (is (namesEdge c)) (λ _. eq-is x (c .junior))) in
+      ⊎-elim (λ h. senior-lt (h .1)) (⊎-elim (λ h. role-lt (h .1)) (λ h. end-lt (h .0) (h .1))) (or-is seniors ends .0 e)
 
   strictly-lt : strictly c x ≡ true → x < 64
   unfolding strictly
@@ -120,6 +122,13 @@ module _ {c : Command} (fits : Fits c) (well : Malformed c → ⊥) (x : ℕ) wh
       let juniors = and-is (eq-is (c .code) 1) (λ _. is (asJunior c x)) in
       let gone = and-is (eq-is (c .code) 2) (λ _. eq-is x (c .role)) in
       ⊎-elim (λ h. junior-lt (h .1)) (λ h. role-lt (h .1)) (or-is juniors gone .0 e)
+
+  -- and all the rights that it asks for are of the five
+  asks-lt : asks c x ≡ true → x < 5
+  unfolding asks
+  asks-lt = cond-elim (λ p. p ≡ true → x < 5) (leb 6 (c .code)) (bit (c .rights) x) (eqb (c .code) (suc x))
+      (λ named e. bit-lt 5 {s = c .rights} {x = x} (rights-lt c well (leb-true 6 (c .code) named)) e)
+      (λ own e. let n = leb-false 6 (c .code) own in let q = eqb-true (c .code) (suc x) e in omega (arith, n, q))
 
 module _ (t : Tables) {c : Command} (fits : Fits c) (well : Malformed c → ⊥) where
   missing-is : (missing? t c ≡ true) ↔ Missing t c
@@ -138,6 +147,27 @@ module _ (t : Tables) {c : Command} (fits : Fits c) (well : Malformed c → ⊥)
         λ h. i .1 (λ x _. (h .scope x, λ d. let m = h .strict x d in record { scope = m .0; strict = m .1 })),
       )
 
+-- ---- row 13
+
+module _ {t : Tables} (s : Shaped t) (rights : List ℕ) where
+  mayUse-is : (a k : ℕ) → (mayUse? t rights a k ≡ true) ↔ MayUse (Derives t) rights a k
+  unfolding mayUse?
+  mayUse-is a k =
+      let lower = any-is 64 (λ x. and-is (is (bit (rightsOf rights x) k)) (λ _. derives-is s a x)) (λ x h. bit-lt 64 (s .live-fits) (h .1 .to)) in
+      Iff·trans (or-is (is (bit (rightsOf rights a) k)) lower) (
+        ⊎-elim own (λ w. derived (w .1 .1) (w .1 .0)),
+        λ m. elim m [
+          | own h ↦ inl h
+          | derived {x} d h ↦ inr (x, (h, d))
+        ],
+      )
+
+  entitled-is : {c : Command} → Fits c → (Malformed c → ⊥) → (entitled? t rights c ≡ true) ↔ Entitled (Derives t) rights c
+  unfolding entitled?
+  entitled-is {c} fits well =
+      let i = all-is 5 (λ k. if-is (is (asks c k)) (mayUse-is (c .actor) k)) in
+      (λ e k a. i .0 e k (asks-lt fits well k a) a, λ h. i .1 (λ k _. h k))
+
 -- ---- all rows
 
 -- one row: its test decides it, and where it fails the rest is tried
@@ -145,33 +175,28 @@ tried : (k n : ℕ) (rest : List (ℕ × Type 0)) {X : Type 0} {p : Bool} → (p
 tried k n rest {X} {p = true} d f = hit k X rest (d .0 refl)
 tried k n rest {X} {p = false} d f = let fails : X → ⊥ = λ x. false≢true (d .1 x) in pass k X rest n fails (f fails)
 
-afterwards-is : (t : Tables) (c : Command) → Shaped t → First (afterwards t c) (first? (afterwards? t c))
+afterwards-is : (t : Tables) (c : Command) → Shaped t → Joined t → First (afterwards t c) (first? (afterwards? t c))
 unfolding first?
-afterwards-is t c s =
-    tried 7 _ _ (loops-is s) (λ _.
+afterwards-is t c s joined =
+    tried 7 _ _ (Iff·trans (liveLoops-is s) (joined-loops joined)) (λ _.
     tried 8 _ _ (outside-is t c s) (λ _.
     tried 9 _ _ (not-is (managed-is s)) (λ _. none)))
 
--- document 01's rows, the first of them by the tables alone
-abbrev pub byTables : Tables → Command → List (ℕ × Type 0)
-byTables t c = (1, (Sound t → ⊥)) ∷ onTables t c
-
--- The computed number of a command is that of its first refusal in document 01's table, on tables;
-pub answer-is : (t : Tables) (c : Command) → Fits c → First (byTables t c) (answer? t c)
+-- The computed number of a command is that of its first refusal in document 01's table, on sound tables.
+pub answer-is : (t : Tables) (rights : List ℕ) (c : Command) → Sound t → Fits c → First (onTables t rights c) (answer? t rights c)
 unfolding answer? first?
-answer-is t c fits =
-    tried 1 _ _ (not-is (sound-is t)) (λ sound. let s = stable (sound-dec t) sound .shaped in
+answer-is t rights c sound fits =
+    let s = sound .shaped in
     tried 2 _ _ (malformed-is c) (λ well.
-    tried 3 _ _ (missing-is t fits well) (λ _.
+    tried 3 _ _ (missing-is t fits well) (λ there.
     tried 4 _ _ (standing-is t c) (λ _.
     tried 5 _ _ (lacking-is t c) (λ _.
+    tried 13 _ _ (not-is (entitled-is s rights fits well)) (λ _.
     tried 6 _ _ (not-is (inScope-is t fits well s)) (λ _.
-    subst (λ d. First (afterwards (after t c) c) (first? (afterwards? d c))) (sym (left-is t c s)) (afterwards-is (after t c) c (shaped-after t c))))))))
-
--- and so it is on a board that keeps right values.
-pub on-board : (b : Board) (c : Command) (n : ℕ) → KeepsRight b → First (byTables (tablesOf b) c) n → First (refusals b c) n
-on-board b c n right = first-alike ((1, (Sound (tablesOf b) → ⊥)) ∷ []) ((1, (SoundBoard b → ⊥)) ∷ []) (onTables (tablesOf b) c) (onTables (tablesOf b) c) n
-    (refl, (λ h s. h (s .sound), λ h s. h (record { sound = s; right = right })), tt) (λ _ f. f)
+    cond-elim (λ rows. First (afterwards (after t c) c) (first? rows)) (namesRights c) [] (afterwards? (left t c) c)
+    (λ e. let past = leb-true 6 (c .code) e in subst (λ d. First (afterwards d c) 0) (sym (tables-stay t c s past)) (sound-passes t c sound (λ q. omega (arith, past, q))))
+    (λ _. subst (λ d. First (afterwards (after t c) c) (first? (afterwards? d c))) (sym (left-is t c s))
+    (afterwards-is (after t c) c (shaped-after t c) (joined-after t c (sound .joined) well there)))))))))
 
 -- ---- request 3: whom a 6 names
 
@@ -206,9 +231,8 @@ module _ {t : Tables} (s : Shaped t) (a : ℕ) where
       (and-is (all-is 64 (λ x. not-is (breaks-is those strict x))) (λ _. is (offends? t a rest who cause way))) .0 e)
 
 -- Where the command gives 6 its answer names those that the test is true of.
-pub blames-holds : (t : Tables) (c : Command) (who cause way : ℕ) → Shaped t → Fits c → First (byTables t c) 6 → blames? t c who cause way ≡ true
+pub blames-holds : (t : Tables) (rights : List ℕ) (c : Command) (who cause way : ℕ) → Shaped t → Fits c → First (onTables t rights c) 6 → blames? t c who cause way ≡ true
     → Blames (Scope t) (OutOfScope t) c (record { number = 6; who = who; cause = cause; way = way })
-blames-holds t c who cause way s fits f e =
-    let well = passed 2 _ _ 6 (λ d. absurd (omega (arith, d))) (first-without 1 _ _ 6 (passed 1 _ _ 6 (λ d. absurd (omega (arith, d))) f) f) in
-    let r = offends-holds s (c .actor) (conditions c) (all-small c well fits) who cause way e in
+blames-holds t rights c who cause way s fits f e =
+    let r = offends-holds s (c .actor) (conditions c) (all-small c (passed 2 _ _ 6 (λ d. absurd (omega (arith, d))) f) fits) who cause way e in
     record { strict = r .0; offends = r .1 .0; because = r .1 .1 }

@@ -1,18 +1,26 @@
--- The tables afterwards as they are computed, with the rows that a command cannot touch taken as they are, are those of the definitions.
--- Assumes nothing.
-use mathlib.Core.Path.{_≡_, refl, sym, _∙_, ap, ap₂, fun-ext}
+-- The tables and the rights afterwards as they are computed, with the rows that a command cannot touch taken as they are, are those of the
+-- definitions. Assumes nothing.
+use mathlib.Core.Path.{_≡_, refl, sym, _∙_, ap, ap₂, subst, fun-ext}
 use mathlib.Core.Bool.{Bool, true, false, cond, not, _&&_, _||_, and-true, and-false, or-false, true≢false}
 use mathlib.Core.List.{List}
 use Prim.Native.Nat.{ℕ, _^_, _<_}
+use native.Mathlib.Omega.{arith}
 use lib.Dec.{eqb}
-use borrow.Author.Tests.{eqb-true}
+use borrow.Author.Tests.{eqb-true, leb-true}
 use Rattle.sets.specs.Sets.{bit, setOf}
 use Rattle.sets.proofs.Bools.{cond-elim}
 use Rattle.sets.proofs.Laws.{is-setOf}
 use Rattle.hierarchy.specs.Tables.{Tables, row, Shaped, hasI, hasA}
+use Rattle.hierarchy.proofs.Rows.{row-set}
 use Rattle.board.specs.Effects.{lives, entry, listOf, tableAfter, after}
+use Rattle.board.specs.Rights.{rightsAfter}
+use Rattle.board.specs.Rows.{AreBytes}
+use Rattle.board.specs.Commands.{namesRights, Malformed}
 use Rattle.board.specs.declared.Command.{Command}
-use Rattle.examples.specs.Answer.{touched?, tableLeft, left}
+use Rattle.board.proofs.Edits.{tables-stay}
+use Rattle.board.proofs.Trying.{role-lt}
+use Rattle.board.proofs.Using.{rights-length, rights-set, rights-small}
+use Rattle.examples.specs.Answer.{touched?, tableLeft, left, rightsLeft}
 
 neither : (p q : Bool) → (p || q) ≡ false → (p ≡ false) × (q ≡ false)
 neither true q e = absurd (true≢false e)
@@ -56,8 +64,25 @@ tableLeft-is c seniors juniors part t fits = ap (listOf 64) (fun-ext (λ x.
 
 pub left-is : (t : Tables) (c : Command) → Shaped t → left t c ≡ after t c
 unfolding left after
-left-is t c s = λ k. record {
-  live = setOf (λ x. lives c (bit (t .live) x) x);
-  i = tableLeft-is c (c .«i_seniors») (c .«i_juniors») (hasI (c .kind)) (t .i) (s .i-fits) k;
-  a = tableLeft-is c (c .«a_seniors») (c .«a_juniors») (hasA (c .kind)) (t .a) (s .a-fits) k;
-}
+left-is t c s = cond-elim (λ d. d ≡ after t c) (namesRights c) t _
+    (λ e. sym (tables-stay t c s (leb-true 6 (c .code) e)))
+    (λ _ k. record {
+      live = setOf (λ x. lives c (bit (t .live) x) x);
+      i = tableLeft-is c (c .«i_seniors») (c .«i_juniors») (hasI (c .kind)) (t .i) (s .i-fits) k;
+      a = tableLeft-is c (c .«a_seniors») (c .«a_juniors») (hasA (c .kind)) (t .a) (s .a-fits) k;
+    })
+
+module _ (c : Command) (formed : Malformed c → ⊥) {rights : List ℕ} (whole : AreBytes rights) where
+  pub rightsLeft-is : rightsLeft c rights ≡ rightsAfter c rights
+  unfolding rightsLeft
+  rightsLeft-is = rights-set c rights whole (role-lt c formed) _ refl
+
+  -- and so they stay bytes
+  pub bytes-after : AreBytes (rightsAfter c rights)
+  unfolding rightsLeft
+  bytes-after = record {
+    rows = rights-length c rights;
+    fits = λ x. subst (λ (l : List ℕ). row l x < 256) rightsLeft-is
+        (row-set rights (c .role) _ x (omega (arith, whole .rows, role-lt c formed)) (λ n. n < 256)
+        (λ _. rights-small c formed _ _ (whole .fits (c .role)) refl) (λ _. whole .fits x));
+  }

@@ -3,4 +3,5 @@ pub mod Theorem
 pub mod Slips
 pub mod Entries
 pub mod Answering
+pub mod Ordering
 pub mod Leaving

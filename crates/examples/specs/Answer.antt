@@ -1,17 +1,20 @@
--- The number of a command, computed: each row of document 01's table of refusals as a test that can be run, on any tables; and a test
--- of whom a 6 names. `Rattle.examples.proofs.Answering` says that these are what the definitions give.
+-- The number of a command, computed: each row of document 01's table of refusals as a test that can be run, on any tables and rights; and
+-- a test of whom a 6 names. `Rattle.examples.proofs.Answering` says that these are what the definitions give.
 use mathlib.Core.Bool.{Bool, false, cond, not, _&&_, _||_}
 use mathlib.Core.List.{List, [], _∷_, _++_}
 use Prim.Native.Nat.{ℕ, _^_}
+use lib.Bits.{bitOr}
 use lib.Dec.{eqb, ltb, leb}
+use lib.ListN.{length, set}
 use Rattle.sets.specs.Sets.{bit, setOf}
 use Rattle.hierarchy.specs.Tables.{Tables, row, hasI, hasA}
-use Rattle.hierarchy.specs.Compute.{all, any, scope?, outOfScope?, admin?, loops?, managed?, sound?}
+use Rattle.hierarchy.specs.Compute.{all, any, derives?, scope?, outOfScope?, admin?, reaches?, managed?}
 use Rattle.board.specs.Effects.{lives, entry, listOf}
-use Rattle.board.specs.Commands.{needed, scoped, strictly, conditions}
+use Rattle.board.specs.Rights.{rightsOf, asks, holds}
+use Rattle.board.specs.Commands.{namesEdge, namesRights, needed, scoped, strictly, conditions}
 use Rattle.board.specs.declared.Command.{Command}
 
--- ---- the tables afterwards
+-- ---- tables and rights afterwards
 
 -- whether the command may touch row x of a table that `seniors` are entered in: only its own role's, and those with it as a junior
 unfoldable pub touched? : Command → ℕ → List ℕ → ℕ → Bool
@@ -22,23 +25,48 @@ unfoldable pub tableLeft : Command → ℕ → ℕ → Bool → List ℕ → Lis
 tableLeft c seniors juniors part t =
     listOf 64 (λ x. cond (touched? c seniors t x) (setOf (λ y. entry c seniors juniors part (bit (row t x) y) x y)) (row t x))
 
--- the same tables as `after t c`, in fewer steps
+-- the same tables as `after t c`, in fewer steps; commands 6 and 7 leave them
 unfoldable pub left : Tables → Command → Tables
-left t c = record {
+left t c = cond (namesRights c) t (record {
   live = setOf (λ x. lives c (bit (t .live) x) x);
   i = tableLeft c (c .«i_seniors») (c .«i_juniors») (hasI (c .kind)) (t .i);
   a = tableLeft c (c .«a_seniors») (c .«a_juniors») (hasA (c .kind)) (t .a);
-}
+})
 
--- ---- a test for each row
+-- the same rights as `rightsAfter c rights`: only the byte of the role named may be another
+unfoldable pub rightsLeft : Command → List ℕ → List ℕ
+rightsLeft c rights = set rights (c .role) (setOf (λ k. holds c (bit (rightsOf rights (c .role)) k) (c .role) k))
+
+-- ---- a sound board, in fewer steps than the words take: rows and not entries are looked at, and only live roles for loops
+
+-- whether nobody is in the row s of x, or x and all of them live
+unfoldable pub joins? : (live x s : ℕ) → Bool
+joins? live x s = eqb s 0 || (bit live x && eqb (bitOr s live) live)
+
+unfoldable pub joinedRows? : Tables → Bool
+joinedRows? t = all 64 (λ x. joins? (t .live) x (row (t .i) x) && joins? (t .live) x (row (t .a) x))
+
+unfoldable pub liveLoops? : Tables → Bool
+liveLoops? t = any 64 (λ x. bit (t .live) x && reaches? t x x)
+
+-- whether only live roles hold rights, and only the five
+unfoldable pub rightful? : ℕ → List ℕ → Bool
+rightful? live rights = eqb (length rights) 64 && all 64 (λ x. leb (rightsOf rights x) 31 && (bit live x || eqb (rightsOf rights x) 0))
+
+-- of tables in their shape
+unfoldable pub inOrder? : Tables → List ℕ → Bool
+inOrder? t rights = joinedRows? t && (not (liveLoops? t) && (bit (t .live) 0 && (managed? t && rightful? (t .live) rights)))
+
+-- ---- a test for each row of a sound board's command
 
 unfoldable pub malformed? : Command → Bool
 malformed? c =
-    (ltb (c .code) 1 || ltb 5 (c .code))
+    (ltb (c .code) 1 || ltb 7 (c .code))
     || (ltb 63 (c .actor)
     || (ltb 63 (c .role)
-    || ((leb 3 (c .code) && ltb 63 (c .junior))
-    || (leb 3 (c .code) && (ltb (c .kind) 1 || ltb 3 (c .kind))))))
+    || ((namesEdge c && ltb 63 (c .junior))
+    || ((namesEdge c && (ltb (c .kind) 1 || ltb 3 (c .kind)))
+    || (namesRights c && ltb 31 (c .rights))))))
 
 unfoldable pub missing? : Tables → Command → Bool
 missing? t c = any 64 (λ x. needed c x && not (bit (t .live) x))
@@ -56,6 +84,13 @@ standing? t c = (eqb (c .code) 1 && bit (t .live) (c .role)) || (eqb (c .code) 3
 unfoldable pub lacking? : Tables → Command → Bool
 lacking? t c = (eqb (c .code) 4 && not (partsStand? t c)) || (eqb (c .code) 5 && not (linked? t c))
 
+-- whether the actor a may use right k; what it holds itself is looked at first, and who holds it before who derives whom
+unfoldable pub mayUse? : Tables → List ℕ → (a k : ℕ) → Bool
+mayUse? t rights a k = bit (rightsOf rights a) k || any 64 (λ x. bit (rightsOf rights x) k && derives? t a x)
+
+unfoldable pub entitled? : Tables → List ℕ → Command → Bool
+entitled? t rights c = all 5 (λ k. not (asks c k) || mayUse? t rights (c .actor) k)
+
 unfoldable pub inScope? : Tables → Command → Bool
 inScope? t c =
     all 64 (λ x. (not (scoped c x) || scope? t (c .actor) x) && (not (strictly c x) || admin? t (c .actor) x))
@@ -70,27 +105,28 @@ unfoldable pub first? : List (ℕ × Bool) → ℕ
 first? [] = 0
 first? (test ∷ rest) = cond (test .1) (test .0) (first? rest)
 
--- on the tables handed in
-abbrev pub before? : Tables → Command → List (ℕ × Bool)
-before? t c =
-    (1, not (sound? t))
-    ∷ (2, malformed? c)
+-- on the tables and rights handed in
+abbrev pub before? : Tables → List ℕ → Command → List (ℕ × Bool)
+before? t rights c =
+    (2, malformed? c)
     ∷ (3, missing? t c)
     ∷ (4, standing? t c)
     ∷ (5, lacking? t c)
+    ∷ (13, not (entitled? t rights c))
     ∷ (6, not (inScope? t c))
     ∷ []
 
 -- on the tables that the command would leave
 abbrev pub afterwards? : Tables → Command → List (ℕ × Bool)
 afterwards? t c =
-    (7, loops? t)
+    (7, liveLoops? t)
     ∷ (8, outside? t c)
     ∷ (9, not (managed? t))
     ∷ []
 
-unfoldable pub answer? : Tables → Command → ℕ
-answer? t c = first? (before? t c ++ afterwards? (left t c) c)
+-- where 6 and 7 leave sound tables there is nothing to try
+unfoldable pub answer? : Tables → List ℕ → Command → ℕ
+answer? t rights c = first? (before? t rights c ++ cond (namesRights c) [] (afterwards? (left t c) c))
 
 -- ---- request 3: who offends first, and why
 

@@ -1,8 +1,11 @@
 -- The boards of the examples by their tables, and commands as document 01's table of commands names their fields. P, W and L are document 01's.
-use mathlib.Core.List.{_∷_}
+use mathlib.Core.Path.{_≡_}
+use mathlib.Core.List.{List, _∷_}
 use Prim.Native.Nat.{ℕ}
 use lib.ListN.{replicate}
 use Rattle.hierarchy.specs.Tables.{Tables}
+use Rattle.board.specs.Boards.{tablesOf}
+use Rattle.board.specs.declared.Board.{Board}
 use Rattle.board.specs.declared.Command.{Command}
 
 -- A set of roles is written in binary, role 0 at the right end. The rows of a table start with role 0's.
@@ -27,6 +30,15 @@ E = record { live = 0b11; i = 0b10 ∷ replicate 63 0; a = replicate 64 0 }
 unfoldable pub F : Tables
 F = record { live = 0b11011; i = 0b10010 ∷ 0 ∷ 0 ∷ 0b10000 ∷ replicate 60 0; a = 0 ∷ 0b01000 ∷ replicate 62 0 }
 
+-- Request 4: on each of these boards roles 0 and 1 hold all five rights to begin with.
+abbrev pub startRights : List ℕ
+startRights = 31 ∷ 31 ∷ replicate 62 0
+
+-- b is a board of these tables and rights
+pub record Of (t : Tables) (rights : List ℕ) (b : Board) : Type 0 where
+  pub tables-are : tablesOf b ≡ t
+  pub rights-are : b .rights ≡ rights
+
 -- the kinds by their letters
 abbrev pub I : ℕ
 I = 1
@@ -47,6 +59,7 @@ addBetween actor role a-seniors i-seniors a-juniors i-juniors = record {
   role = role;
   junior = 0;
   kind = 0;
+  rights = 0;
   «a_seniors» = a-seniors;
   «i_seniors» = i-seniors;
   «a_juniors» = a-juniors;
@@ -56,14 +69,15 @@ addBetween actor role a-seniors i-seniors a-juniors i-juniors = record {
 abbrev pub addRole : (actor role a-seniors i-seniors : ℕ) → Command
 addRole actor role a-seniors i-seniors = addBetween actor role a-seniors i-seniors 0 0
 
--- the others, which name no sets
-abbrev pub command : (code actor role junior kind : ℕ) → Command
-command code actor role junior kind = record {
+-- the others, which name no sets; a code above 7 is no command's
+abbrev pub command : (code actor role junior kind rights : ℕ) → Command
+command code actor role junior kind rights = record {
   code = code;
   actor = actor;
   role = role;
   junior = junior;
   kind = kind;
+  rights = rights;
   «a_seniors» = 0;
   «i_seniors» = 0;
   «a_juniors» = 0;
@@ -71,13 +85,20 @@ command code actor role junior kind = record {
 }
 
 abbrev pub removeRole : (actor role : ℕ) → Command
-removeRole actor role = command 2 actor role 0 0
+removeRole actor role = command 2 actor role 0 0 0
 
 abbrev pub addEdge : (actor senior junior kind : ℕ) → Command
-addEdge = command 3
+addEdge actor senior junior kind = command 3 actor senior junior kind 0
 
 abbrev pub removeEdge : (actor senior junior kind : ℕ) → Command
-removeEdge = command 4
+removeEdge actor senior junior kind = command 4 actor senior junior kind 0
 
 abbrev pub changeEdge : (actor senior junior kind : ℕ) → Command
-changeEdge = command 5
+changeEdge actor senior junior kind = command 5 actor senior junior kind 0
+
+-- rights are written in binary too, that of command 1 at the right end
+abbrev pub giveRights : (actor role rights : ℕ) → Command
+giveRights actor role = command 6 actor role 0 0
+
+abbrev pub takeRights : (actor role rights : ℕ) → Command
+takeRights actor role = command 7 actor role 0 0

@@ -1,20 +1,22 @@
 // The boards and the commands of the examples, the same as those of the table of examples.
 ghost use mathlib.Core.Path.{_≡_};
 ghost use Rattle.hierarchy.specs.Tables.{tables};
-ghost use Rattle.board.specs.Boards.{tablesOf};
-ghost use Rattle.examples.specs.Boards.{P, W, L, E, F, command, addBetween, addRole, removeRole, addEdge, removeEdge, changeEdge};
+ghost use Rattle.examples.specs.Boards.{startRights, Of, P, W, L, E, F, command, addBetween, addRole, removeRole, addEdge, removeEdge, changeEdge, giveRights, takeRights};
 use board::Board;
 use board::Command;
 use hierarchy::working::work_out;
 
-// The board of these tables; what it keeps is worked out.
+// The board of these tables, with all rights at roles 0 and 1; what it keeps is worked out.
 fn of(live: u64, i: [u64; 64], a: [u64; 64]) -> Board
-    ensures { λ r. ⌜ tablesOf r ≡ tables live i a ⌝ }
+    ensures { λ r. ⌜ Of (tables live i a) startRights r ⌝ }
 {
     let mut derives = [0u64; 64];
     let mut derivers = [0u64; 64];
     let mut manager = [0u8; 64];
     work_out(live, &i, &a, &mut derives, &mut derivers, &mut manager);
+    let mut rights = [0u8; 64];
+    rights[0] = Board::ALL_RIGHTS;
+    rights[1] = Board::ALL_RIGHTS;
     Board {
         live,
         i,
@@ -22,12 +24,13 @@ fn of(live: u64, i: [u64; 64], a: [u64; 64]) -> Board
         derives,
         derivers,
         manager,
+        rights,
     }
 }
 
 // 0 I 1, 1 I 2, 1 A 3
 pub(crate) fn p() -> Board
-    ensures { λ r. ⌜ tablesOf r ≡ P ⌝ }
+    ensures { λ r. ⌜ Of P startRights r ⌝ }
 {
     let mut i = [0u64; Board::ROLES];
     i[0] = 0b0010;
@@ -39,7 +42,7 @@ pub(crate) fn p() -> Board
 
 // 0 I 1, 0 I 2, 0 I 3, 1 A 3, 1 A 4, 3 A 5, 4 A 5
 pub(crate) fn w() -> Board
-    ensures { λ r. ⌜ tablesOf r ≡ W ⌝ }
+    ensures { λ r. ⌜ Of W startRights r ⌝ }
 {
     let mut i = [0u64; Board::ROLES];
     i[0] = 0b001110;
@@ -52,7 +55,7 @@ pub(crate) fn w() -> Board
 
 // 0 I 1, 1 I 2, 2 A 3, 0 A 3
 pub(crate) fn l() -> Board
-    ensures { λ r. ⌜ tablesOf r ≡ L ⌝ }
+    ensures { λ r. ⌜ Of L startRights r ⌝ }
 {
     let mut i = [0u64; Board::ROLES];
     i[0] = 0b0010;
@@ -65,7 +68,7 @@ pub(crate) fn l() -> Board
 
 // 0 I 1
 pub(crate) fn e() -> Board
-    ensures { λ r. ⌜ tablesOf r ≡ E ⌝ }
+    ensures { λ r. ⌜ Of E startRights r ⌝ }
 {
     let mut i = [0u64; Board::ROLES];
     i[0] = 0b10;
@@ -74,7 +77,7 @@ pub(crate) fn e() -> Board
 
 // 0 I 1, 1 A 3, 3 I 4, 0 I 4
 pub(crate) fn f() -> Board
-    ensures { λ r. ⌜ tablesOf r ≡ F ⌝ }
+    ensures { λ r. ⌜ Of F startRights r ⌝ }
 {
     let mut i = [0u64; Board::ROLES];
     i[0] = 0b10010;
@@ -101,6 +104,7 @@ pub(crate) fn add_between(
         role,
         junior: 0,
         kind: 0,
+        rights: 0,
         a_seniors,
         i_seniors,
         a_juniors,
@@ -115,9 +119,16 @@ pub(crate) fn add_role(actor: u32, role: u32, a_seniors: u64, i_seniors: u64) ->
     add_between(actor, role, a_seniors, i_seniors, 0, 0)
 }
 
-// The other commands, which name no sets.
-fn command(code: u32, actor: u32, role: u32, junior: u32, kind: u32) -> Command
-    ensures { λ r. ⌜ r ≡ command code actor role junior kind ⌝ }
+// The other commands, which name no sets; a code above 7 is no command's.
+pub(crate) fn command(
+    code: u32,
+    actor: u32,
+    role: u32,
+    junior: u32,
+    kind: u32,
+    rights: u32,
+) -> Command
+    ensures { λ r. ⌜ r ≡ command code actor role junior kind rights ⌝ }
 {
     Command {
         code,
@@ -125,6 +136,7 @@ fn command(code: u32, actor: u32, role: u32, junior: u32, kind: u32) -> Command
         role,
         junior,
         kind,
+        rights,
         a_seniors: 0,
         i_seniors: 0,
         a_juniors: 0,
@@ -135,23 +147,35 @@ fn command(code: u32, actor: u32, role: u32, junior: u32, kind: u32) -> Command
 pub(crate) fn remove_role(actor: u32, role: u32) -> Command
     ensures { λ r. ⌜ r ≡ removeRole actor role ⌝ }
 {
-    command(2, actor, role, 0, 0)
+    command(2, actor, role, 0, 0, 0)
 }
 
 pub(crate) fn add_edge(actor: u32, senior: u32, junior: u32, kind: u32) -> Command
     ensures { λ r. ⌜ r ≡ addEdge actor senior junior kind ⌝ }
 {
-    command(3, actor, senior, junior, kind)
+    command(3, actor, senior, junior, kind, 0)
 }
 
 pub(crate) fn remove_edge(actor: u32, senior: u32, junior: u32, kind: u32) -> Command
     ensures { λ r. ⌜ r ≡ removeEdge actor senior junior kind ⌝ }
 {
-    command(4, actor, senior, junior, kind)
+    command(4, actor, senior, junior, kind, 0)
 }
 
 pub(crate) fn change_edge(actor: u32, senior: u32, junior: u32, kind: u32) -> Command
     ensures { λ r. ⌜ r ≡ changeEdge actor senior junior kind ⌝ }
 {
-    command(5, actor, senior, junior, kind)
+    command(5, actor, senior, junior, kind, 0)
+}
+
+pub(crate) fn give_rights(actor: u32, role: u32, rights: u32) -> Command
+    ensures { λ r. ⌜ r ≡ giveRights actor role rights ⌝ }
+{
+    command(6, actor, role, 0, 0, rights)
+}
+
+pub(crate) fn take_rights(actor: u32, role: u32, rights: u32) -> Command
+    ensures { λ r. ⌜ r ≡ takeRights actor role rights ⌝ }
+{
+    command(7, actor, role, 0, 0, rights)
 }

@@ -35,8 +35,8 @@ fn yes_or_no(yes: bool) {
     }
 }
 
-// The roles of s, a space before each, or '-' where it has none.
-fn roles(s: u64) {
+// The members of s by their numbers, of which the lowest is `from`, a space before each, or '-' where it has none.
+fn listed(s: u64, from: u8) {
     if s == 0 {
         text(b" -");
     }
@@ -44,10 +44,20 @@ fn roles(s: u64) {
     while r < 64 {
         if has(s, r as usize) {
             text(b" ");
-            number(r);
+            number(r + from as u32);
         }
         r += 1;
     }
+}
+
+fn roles(s: u64) {
+    listed(s, 0);
+}
+
+// Rights are numbered as the commands that they are for.
+fn the_rights(s: u64) {
+    text(b" the rights");
+    listed(s, 1);
 }
 
 // ---- questions
@@ -248,6 +258,40 @@ pub(crate) fn remove_role(name: &[u8], b: Board, a: u32, role: u32) -> Board {
     run(b, boards::remove_role(a, role))
 }
 
+// Gives rights to a role or takes them, as the command's code says.
+pub(crate) fn on_rights(name: &[u8], b: Board, c: Command) -> Board {
+    actor(name, c.actor);
+    if c.code == 6 {
+        text(b" gives role ");
+    } else {
+        text(b" takes from role ");
+    }
+    number(c.role);
+    the_rights(c.rights as u64);
+    run(b, c)
+}
+
+// A code that is no command's.
+pub(crate) fn on_code(name: &[u8], b: Board, c: Command) -> Board {
+    actor(name, c.actor);
+    text(b" tries code ");
+    number(c.code);
+    run(b, c)
+}
+
+// The rights that r holds.
+pub(crate) fn rights(name: &[u8], b: Board, r: u32) {
+    text(name);
+    text(b": ");
+    number(r);
+    text(b" holds");
+    let held = b.rights;
+    if r < 64 {
+        the_rights(held[r as usize] as u64);
+    }
+    text(b"\n");
+}
+
 // The kind of the edge from x to y, by the two tables; 0 where there is none.
 fn kind_of(b: Board, x: usize, y: usize) -> u32 {
     if x > 63 {
@@ -312,7 +356,20 @@ fn same_rows(s: [u64; 64], t: [u64; 64]) -> bool
     true
 }
 
-// Whether the two boards are the same: their tables and the sets that they keep, which settle the line managers.
+// A row of bytes as a row of sets.
+fn wide(row: [u8; 64]) -> [u64; 64]
+    ensures { λ r. ⌜ r ≡ row ⌝ }
+{
+    let mut w = [0u64; 64];
+    let mut x = 0;
+    while x < 64 {
+        w[x] = row[x] as u64;
+        x += 1;
+    }
+    w
+}
+
+// Whether the two boards are the same: their tables, their rights and the sets that they keep, which settle the line managers.
 pub(crate) fn same(name: &[u8], b: Board, d: Board) {
     text(name);
     text(b": ");
@@ -325,5 +382,7 @@ pub(crate) fn same(name: &[u8], b: Board, d: Board) {
     let bu = b.derivers;
     let dd = d.derives;
     let du = d.derivers;
-    yes_or_no(tables && same_rows(bd, dd) && same_rows(bu, du));
+    let br = wide(b.rights);
+    let dr = wide(d.rights);
+    yes_or_no(tables && same_rows(bd, dd) && same_rows(bu, du) && same_rows(br, dr));
 }

@@ -3,11 +3,14 @@
 use boards::add_between;
 use boards::add_edge;
 use boards::change_edge;
+use boards::command;
 use boards::e;
 use boards::f;
+use boards::give_rights;
 use boards::l;
 use boards::p;
 use boards::remove_edge;
+use boards::take_rights;
 use boards::w;
 
 mod boards;
@@ -129,13 +132,15 @@ fn last_part() {
     lines::same(b"P with 0 I 2, and that removed again, is P", less, b);
 }
 
-// Request 3: which role is in the way.
+// Request 3: which role is in the way. The actors are given the rights that they need.
 fn in_the_way() {
     let b = w();
-    lines::on_edge(b"W", b, change_edge(4, 4, 5, 1));
+    let able = lines::on_rights(b"W", b, give_rights(1, 4, 0b10000));
+    lines::on_edge(b"W, 4 with right 5", able, change_edge(4, 4, 5, 1));
     let d = f();
     lines::sound(b"F", d);
-    lines::remove_role(b"F", d, 3, 4);
+    let may = lines::on_rights(b"F", d, give_rights(1, 3, 0b00010));
+    lines::remove_role(b"F, 3 with right 2", may, 3, 4);
     lines::in_scope(b"W", b, 4, 5);
     lines::in_scope(b"W", b, 4, 3);
     lines::in_scope(b"W", b, 4, 4);
@@ -145,13 +150,66 @@ fn in_the_way() {
 // Request 3: of several that offend the first is named, seniors before juniors, set by set, in each the lowest.
 fn first_that_offends() {
     let b = p();
-    lines::on_edge(b"P", b, add_edge(2, 3, 0, 1));
+    let able = lines::on_rights(b"P", b, give_rights(1, 2, 0b00100));
+    lines::on_edge(b"P, 2 with right 3", able, add_edge(2, 3, 0, 1));
     lines::add_between(b"P", b, add_between(0, 4, 0b1000, 0, 0b0001, 0));
     lines::add_between(b"P", b, add_between(0, 4, 0, 0, 0b1000, 0b0001));
     lines::add_between(b"P", b, add_between(0, 4, 0, 0, 0b0001, 0b1000));
     let d = w();
-    lines::add_role(b"W", d, 4, 6, 0b101100, 0);
-    lines::add_role(b"W", d, 4, 6, 0b100000, 0b000100);
+    let may = lines::on_rights(b"W", d, give_rights(1, 4, 0b00001));
+    lines::add_role(b"W, 4 with right 1", may, 4, 6, 0b101100, 0);
+    lines::add_role(b"W, 4 with right 1", may, 4, 6, 0b100000, 0b000100);
+}
+
+// Request 4: who may hand on which rights. A right that is missing goes before scope.
+fn handing_on() {
+    let b = p();
+    lines::on_rights(b"P", b, give_rights(2, 2, 0b00001));
+    lines::on_rights(b"P", b, give_rights(2, 3, 0b00001));
+    lines::remove_role(b"P", b, 2, 3);
+    lines::on_rights(b"P", b, give_rights(0, 3, 0b00001));
+    lines::on_rights(b"P", b, take_rights(0, 3, 0b00001));
+    lines::on_rights(b"P", b, give_rights(2, 3, 0));
+    let none = lines::on_rights(b"P", b, give_rights(2, 2, 0));
+    lines::same(b"P with no right given is P", none, b);
+    lines::on_rights(b"P", b, give_rights(1, 2, 31));
+    lines::on_rights(b"P", b, give_rights(1, 2, 32));
+    lines::on_code(b"P", b, command(8, 0, 1, 0, 0, 31));
+}
+
+// Request 4: rights add up, go with their role, and a new role has none.
+fn coming_and_going() {
+    let b = p();
+    let some = lines::on_rights(b"P", b, give_rights(1, 2, 0b00110));
+    let more = lines::on_rights(b"P, 2 with rights 2 3", some, give_rights(1, 2, 0b01010));
+    lines::rights(b"P, 2 with rights 2 3, then 2 4", more, 2);
+    let less = lines::on_rights(b"P, 2 with rights 2 3 4", more, take_rights(1, 2, 0b00011));
+    lines::rights(b"P, 2 with rights 2 3 4, less 1 2", less, 2);
+    let gone = lines::remove_role(b"P, 2 with rights 3 4", less, 1, 2);
+    lines::rights(b"P without 2", gone, 2);
+    let again = lines::add_role(b"P without 2", gone, 1, 2, 0, 0b10);
+    lines::same(b"P, 2 with rights removed and added again, is P", again, b);
+}
+
+// Request 4: a right that was lost, and one that is held by a role that the actor derives; role 0 reaches role 3 and does not derive it.
+fn using_rights() {
+    let b = p();
+    let lost = lines::on_rights(b"P", b, take_rights(0, 1, 0b10000));
+    lines::on_edge(b"P, 1 without right 5", lost, change_edge(1, 1, 3, 1));
+    lines::on_rights(b"P, 1 without right 5", lost, give_rights(1, 2, 0b10001));
+    lines::on_rights(b"P, 1 without right 5", lost, give_rights(1, 2, 0b01111));
+    let below = lines::on_rights(b"P", b, give_rights(1, 3, 0b00001));
+    let by_3 = lines::on_rights(b"P, 3 with right 1", below, take_rights(0, 1, 0b00001));
+    lines::add_role(b"P, 3 with right 1, 1 without", by_3, 1, 4, 0, 0b10);
+    let own = lines::on_rights(
+        b"P, 3 with right 1, 1 without",
+        by_3,
+        take_rights(0, 0, 0b00001),
+    );
+    lines::rights(b"P, 3 alone with right 1", own, 0);
+    lines::add_role(b"P, 3 alone with right 1", own, 0, 4, 0, 0b10);
+    lines::on_rights(b"P, 3 alone with right 1", own, give_rights(0, 0, 0b00001));
+    lines::add_role(b"P, 3 alone with right 1", own, 1, 4, 0, 0b10);
 }
 
 fn main() {
@@ -166,4 +224,7 @@ fn main() {
     last_part();
     in_the_way();
     first_that_offends();
+    handing_on();
+    coming_and_going();
+    using_rights();
 }

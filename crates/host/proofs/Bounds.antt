@@ -34,11 +34,11 @@ steps-small r {n} s = dite (ℕ-discrete n 0)
     (λ z. omega (arith, s .refused z))
 
 -- what is written is the file of a sound board, and no longer than any other
-pub write-small : {b : Board} {entry exit : List ℕ} {at n len : ℕ} → WriteAnswer b entry at exit n len → len ≤ 6118
+pub write-small : {b : Board} {entry exit : List ℕ} {at n len : ℕ} → WriteAnswer b entry at exit n len → len ≤ 6184
 write-small {b} {entry} {at = at} {n = n} {len} w = dite (ℕ-discrete n 0)
     (λ z.
     let passed = first-done (writeRefusals b entry at) refl (subst (First (writeRefusals b entry at)) z (w .numbered)) in
-    let long : 6118 < len → ⊥ = λ l. passed .0 (λ sound. omega (arith, l, w .done z .0, sound-length (tablesOf b) (sound .sound))) in
+    let long : 6184 < len → ⊥ = λ l. passed .0 (λ sound. omega (arith, l, w .done z .0, sound-length (tablesOf b) (sound .sound) (b .rights))) in
     omega (arith, long))
     (λ z. omega (arith, w .refused z .0))
 

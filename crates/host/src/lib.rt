@@ -52,6 +52,7 @@ pub extern "C" fn board_read(file: &[u8], b: &mut Board) -> u64
         &mut b.derives,
         &mut b.derivers,
         &mut b.manager,
+        &mut b.rights,
     )
 }
 
@@ -64,10 +65,11 @@ fn read_packed(
     derives: &mut [u64; 64],
     derivers: &mut [u64; 64],
     manager: &mut [u8; 64],
+    rights: &mut [u8; 64],
 ) -> u64
-    ensures { λ r. ⌜ ReadPacked (now (file .entry)) (boardOf (now (live .entry)) (now (i .entry)) (now (a .entry)) (now (derives .entry)) (now (derivers .entry)) (now (manager .entry))) (boardOf (now (live .exit)) (now (i .exit)) (now (a .exit)) (now (derives .exit)) (now (derivers .exit)) (now (manager .exit))) r ⌝ }
+    ensures { λ r. ⌜ ReadPacked (now (file .entry)) (boardOf (now (live .entry)) (now (i .entry)) (now (a .entry)) (now (derives .entry)) (now (derivers .entry)) (now (manager .entry)) (now (rights .entry))) (boardOf (now (live .exit)) (now (i .exit)) (now (a .exit)) (now (derives .exit)) (now (derivers .exit)) (now (manager .exit)) (now (rights .exit))) r ⌝ }
 {
-    let q = read_into(file, live, i, a, derives, derivers, manager);
+    let q = read_into(file, live, i, a, derives, derivers, manager, rights);
     packed(q, place_of(q), 0)
 }
 
@@ -91,6 +93,7 @@ pub extern "C" fn board_write(b: &Board, out: &mut [u8], at: usize) -> u64
         &b.derives,
         &b.derivers,
         &b.manager,
+        &b.rights,
         out,
         at,
     )
@@ -104,12 +107,13 @@ fn write_packed<'t>(
     derives: &'t [u64; 64],
     derivers: &'t [u64; 64],
     manager: &'t [u8; 64],
+    rights: &'t [u8; 64],
     out: &mut [u8],
     at: usize,
 ) -> u64
-    ensures { λ r. ⌜ WritePacked (boardOf live (now (i .entry)) (now (a .entry)) (now (derives .entry)) (now (derivers .entry)) (now (manager .entry))) (now (out .entry)) at (now (out .exit)) r ⌝ }
+    ensures { λ r. ⌜ WritePacked (boardOf live (now (i .entry)) (now (a .entry)) (now (derives .entry)) (now (derivers .entry)) (now (manager .entry)) (now (rights .entry))) (now (out .entry)) at (now (out .exit)) r ⌝ }
 {
-    let q = write_of(live, i, a, derives, derivers, manager, out, at);
+    let q = write_of(live, i, a, derives, derivers, manager, rights, out, at);
     packed(q.number, place_of_writing(q.number), q.len as u16)
 }
 

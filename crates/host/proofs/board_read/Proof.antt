@@ -1,4 +1,4 @@
--- `host::board_read` meets its contract: a walk of its MIR, by hand. The board's borrow is opened, its six fields are lent to
+-- `host::board_read` meets its contract: a walk of its MIR, by hand. The board's borrow is opened, its seven fields are lent to
 -- `read_packed` where they lie, to which the file is handed on for good, and the borrow is closed at the board that they are afterwards.
 -- All that the proof knows of `read_packed` is that it meets its contract. Assumes nothing.
 use mathlib.Core.Path.{refl}
@@ -92,36 +92,37 @@ module _
         split ! $ move ! (1 ∷ []) $ split ! $ move ! (3 ∷ []) $ fsplit ! $ move ! (1 ∷ []) $ fsplit ! $ fsplit3 ! $ keep ! (1 ∷ 2 ∷ 5 ∷ 7 ∷ 4 ∷ []) $
         -- [obs; the board's borrow; its token; the file's token; what the file owns]
         enter ! C Λ code.function (only (slice-vals f) ∷ ptr-vals r) _ $
-        alloc1 ! (λ l₀. alloc1 ! (λ l₁. alloc1 ! (λ l₂. alloc1 ! (λ l₃. alloc1 ! (λ l₄. alloc1 ! (λ l₅. alloc1 ! (λ l₆. alloc1 ! (λ l₇. alloc1 ! (λ l₈. alloc0 ! $ params1 ! $
-        pass1 ! (init ! 14 refl (tt, (tt, (record { fits = room .0 }, tt)))) $ pass1 ! (init ! 12 refl (tt, tt)) $ pass0 ! $
-        -- [_8; …; _7; …; _6; …; _5; …; _4; …; _3; …; _2; …; _1; …; room for _0; …; obs; …]: the addresses of the fields
-        assigns ! (addr ! (from ! (hop ! (look ! 12 refl) (fld ! refl (stop !))))) (from ! (stop !)) (init ! 10 refl (tt, tt)) $
-        assigns ! (addr ! (from ! (hop ! (look ! 12 refl) (fld ! refl (stop !))))) (from ! (stop !)) (init ! 8 refl (tt, tt)) $
-        assigns ! (addr ! (from ! (hop ! (look ! 12 refl) (fld ! refl (stop !))))) (from ! (stop !)) (init ! 6 refl (tt, tt)) $
-        assigns ! (addr ! (from ! (hop ! (look ! 12 refl) (fld ! refl (stop !))))) (from ! (stop !)) (init ! 4 refl (tt, tt)) $
-        assigns ! (addr ! (from ! (hop ! (look ! 12 refl) (fld ! refl (stop !))))) (from ! (stop !)) (init ! 2 refl (tt, tt)) $
-        assigns ! (addr ! (from ! (hop ! (look ! 12 refl) (fld ! refl (stop !))))) (from ! (stop !)) (init ! 0 refl (tt, tt)) $
+        alloc1 ! (λ l₀. alloc1 ! (λ l₁. alloc1 ! (λ l₂. alloc1 ! (λ l₃. alloc1 ! (λ l₄. alloc1 ! (λ l₅. alloc1 ! (λ l₆. alloc1 ! (λ l₇. alloc1 ! (λ l₈. alloc1 ! (λ l₉. alloc0 ! $ params1 ! $
+        pass1 ! (init ! 16 refl (tt, (tt, (record { fits = room .0 }, tt)))) $ pass1 ! (init ! 14 refl (tt, tt)) $ pass0 ! $
+        -- [_9; …; _8; …; _7; …; _6; …; _5; …; _4; …; _3; …; _2; …; _1; …; room for _0; …; obs; …]: the addresses of the fields
+        assigns ! (addr ! (from ! (hop ! (look ! 14 refl) (fld ! refl (stop !))))) (from ! (stop !)) (init ! 12 refl (tt, tt)) $
+        assigns ! (addr ! (from ! (hop ! (look ! 14 refl) (fld ! refl (stop !))))) (from ! (stop !)) (init ! 10 refl (tt, tt)) $
+        assigns ! (addr ! (from ! (hop ! (look ! 14 refl) (fld ! refl (stop !))))) (from ! (stop !)) (init ! 8 refl (tt, tt)) $
+        assigns ! (addr ! (from ! (hop ! (look ! 14 refl) (fld ! refl (stop !))))) (from ! (stop !)) (init ! 6 refl (tt, tt)) $
+        assigns ! (addr ! (from ! (hop ! (look ! 14 refl) (fld ! refl (stop !))))) (from ! (stop !)) (init ! 4 refl (tt, tt)) $
+        assigns ! (addr ! (from ! (hop ! (look ! 14 refl) (fld ! refl (stop !))))) (from ! (stop !)) (init ! 2 refl (tt, tt)) $
+        assigns ! (addr ! (from ! (hop ! (look ! 14 refl) (fld ! refl (stop !))))) (from ! (stop !)) (init ! 0 refl (tt, tt)) $
         -- the borrow is opened, the fields are lent, and what `read_packed` asks is put together
-        move ! (18 ∷ 19 ∷ 20 ∷ []) $ open-ref ! tt (mem B.the-row) {x = r .now} {b = b} {o = o} $ nothing ! $ move ! (1 ∷ 0 ∷ []) $ lends-fields ! tt (r .now) b o ftrue (λ k.
-        move ! (26 ∷ 1 ∷ []) $ fjoin ! $ move ! (25 ∷ 1 ∷ 0 ∷ []) $ join ! $ join ! $ nothing ! $ move ! (1 ∷ 0 ∷ []) $ join ! $ use1 W (raw (Does 𝓤 H A at-mem run .pre (to-read k))) (id⊢ 𝓤 _) $
-        -- [what `read_packed` asks; the lender's parts; the way back; the open borrow; obs; auth; _8; …]
+        move ! (20 ∷ 21 ∷ 22 ∷ []) $ open-ref ! tt (mem B.the-row) {x = r .now} {b = b} {o = o} $ nothing ! $ move ! (1 ∷ 0 ∷ []) $ lends-fields ! tt (r .now) b o ftrue (λ k.
+        move ! (28 ∷ 1 ∷ []) $ fjoin ! $ move ! (27 ∷ 1 ∷ 0 ∷ []) $ join ! $ join ! $ nothing ! $ move ! (1 ∷ 0 ∷ []) $ join ! $ use1 W (raw (Does 𝓤 H A at-mem run .pre (to-read k))) (id⊢ 𝓤 _) $
+        -- [what `read_packed` asks; the lender's parts; the way back; the open borrow; obs; auth; _9; …]
         calls-at ! fm (Does 𝓤 H A at-mem run) known (to-read k)
-        (and-then ! (load ! (from ! (stop !)) (look ! 20 refl)) (and-then ! (load ! (from ! (stop !)) (look ! 16 refl)) (and-then ! (load ! (from ! (stop !)) (look ! 14 refl)) (and-then ! (load ! (from ! (stop !)) (look ! 12 refl)) (and-then ! (load ! (from ! (stop !)) (look ! 10 refl)) (and-then ! (load ! (from ! (stop !)) (look ! 8 refl)) (and-then ! (load ! (from ! (stop !)) (look ! 6 refl)) (no-more !)))))))) (λ w.
+        (and-then ! (load ! (from ! (stop !)) (look ! 22 refl)) (and-then ! (load ! (from ! (stop !)) (look ! 18 refl)) (and-then ! (load ! (from ! (stop !)) (look ! 16 refl)) (and-then ! (load ! (from ! (stop !)) (look ! 14 refl)) (and-then ! (load ! (from ! (stop !)) (look ! 12 refl)) (and-then ! (load ! (from ! (stop !)) (look ! 10 refl)) (and-then ! (load ! (from ! (stop !)) (look ! 8 refl)) (and-then ! (load ! (from ! (stop !)) (look ! 6 refl)) (no-more !))))))))) (λ w.
         use1 W (later (some (λ (n : ℕ). ((‵ (flft κ q) ⊛ ‵ (tokensOf k)) ⊛ ‵ (u64 .own n (w ∷ []))) ⊛ raw (ensured 𝓤 H A read-packed.ended (read-packed.clauses 𝓤 H A at-mem run) (κ, lifetimesOf k tt) (to k) tt n))))
         (id⊢ 𝓤 _) $ await ! tt $ pick ! (λ n. split ! $ move ! (1 ∷ []) $
         use1 W (some (λ (zs : Unit {0} × Lasts (Unit {0})). ‵ (fsep ftrue (lastsOf k (boardOfLasts (zs .1)) ftrue)) ⊛ raw (fact 𝓤 (ReadPacked (f .now) (r .now) (boardOfLasts (zs .1)) n)))) (id⊢ 𝓤 _) $
         pick ! (λ zs. split ! $ move ! (1 ∷ []) $ heard ! (ReadPacked (f .now) (r .now) (boardOfLasts (zs .1)) n) (λ e. fsplit ! $ move ! (2 ∷ []) $ split ! $ split ! $ move ! (2 ∷ []) $
-        -- [the result; the file's token; the fields' tokens; true; the last values; the lender's parts; the way back; the open borrow; obs; auth; _8; …]
-        peeks ! u64 (Is u64) (shows 𝓤 H A u64) n (w ∷ []) (λ is. land ! (from ! (stop !)) (init ! 26 refl (uint-lawful 𝓤 H A W w64 .typed n _ is .0)) $
+        -- [the result; the file's token; the fields' tokens; true; the last values; the lender's parts; the way back; the open borrow; obs; auth; _9; …]
+        peeks ! u64 (Is u64) (shows 𝓤 H A u64) n (w ∷ []) (λ is. land ! (from ! (stop !)) (init ! 28 refl (uint-lawful 𝓤 H A W w64 .typed n _ is .0)) $
         -- the fields come back, and the borrow is closed
         move ! (2 ∷ 4 ∷ 5 ∷ 6 ∷ []) $ takes-fields ! tt k (boardOfLasts (zs .1)) b o ftrue $ move ! (0 ∷ 4 ∷ 5 ∷ 6 ∷ []) $ close-ref ! tt (mem B.the-row) (boardOfLasts (zs .1)) {b = b} {o = o} $
-        -- [obs; the board's borrow; its token; the result; the file's token; true; _8; …]
-        returns ! (look ! 22 refl) $ forget ! 6 refl $ forget ! 8 refl $ forget ! 10 refl $ forget ! 12 refl $ forget ! 14 refl $ forget ! 16 refl $ forget ! 18 refl $ forget ! 20 refl $ forget ! 22 refl $
-        move ! (22 ∷ 23 ∷ []) $ free1 ! $ move ! (20 ∷ 21 ∷ []) $ free1 ! $ move ! (18 ∷ 19 ∷ []) $ free1 ! $ move ! (16 ∷ 17 ∷ []) $ free1 ! $ move ! (14 ∷ 15 ∷ []) $ free1 ! $ move ! (12 ∷ 13 ∷ []) $ free1 ! $ move ! (10 ∷ 11 ∷ []) $ free1 ! $ move ! (8 ∷ 9 ∷ []) $ free1 ! $ move ! (6 ∷ 7 ∷ []) $ free1 ! $ free0 ! $
+        -- [obs; the board's borrow; its token; the result; the file's token; true; _9; …]
+        returns ! (look ! 24 refl) $ forget ! 6 refl $ forget ! 8 refl $ forget ! 10 refl $ forget ! 12 refl $ forget ! 14 refl $ forget ! 16 refl $ forget ! 18 refl $ forget ! 20 refl $ forget ! 22 refl $ forget ! 24 refl $
+        move ! (24 ∷ 25 ∷ []) $ free1 ! $ move ! (22 ∷ 23 ∷ []) $ free1 ! $ move ! (20 ∷ 21 ∷ []) $ free1 ! $ move ! (18 ∷ 19 ∷ []) $ free1 ! $ move ! (16 ∷ 17 ∷ []) $ free1 ! $ move ! (14 ∷ 15 ∷ []) $ free1 ! $ move ! (12 ∷ 13 ∷ []) $ free1 ! $ move ! (10 ∷ 11 ∷ []) $ free1 ! $ move ! (8 ∷ 9 ∷ []) $ free1 ! $ move ! (6 ∷ 7 ∷ []) $ free1 ! $ free0 ! $
         -- the exit: the two tokens, the board's borrow, and the result
         suffices ! _ (ends-at 𝓤 H A board-read.ended stayed (board-read.clauses 𝓤 H A at-mem run) W here w n (tt, (boardOfLasts (zs .1), tt)) (tt, (tt, tt))) $ says ! e $
         move ! (2 ∷ 5 ∷ 4 ∷ 0 ∷ 1 ∷ 3 ∷ []) $ join ! $ move ! (1 ∷ 0 ∷ []) $ join ! $ frame ! $
-        feqI ! (List Val) (ptr-vals r) (ptr-vals r) refl $ fjoin3 ! $ nothing ! $ move ! (1 ∷ 0 ∷ []) $ fjoin ! $ nothing ! $ fjoin ! $ done !)))))))))))))))
+        feqI ! (List Val) (ptr-vals r) (ptr-vals r) refl $ fjoin3 ! $ nothing ! $ move ! (1 ∷ 0 ∷ []) $ fjoin ! $ nothing ! $ fjoin ! $ done !))))))))))))))))
 
 pub board-read-spec : {M : Type 1} → stated.statement M
 unfolding code.routine tablesOf

@@ -42,7 +42,7 @@ use denote.Exit.{yes}
 use denote.Triple.Clauses.{ensured, lasts}
 use Rattle.board.specs.declared.Board.{Board}
 use Rattle.board.proofs.Board as B
-use Rattle.board.proofs.Fields.{Views, viewsOf, viewPointersOf, views-fields, hides-fields}
+use Rattle.board.proofs.Fields.{Views, Unchanged, viewsOf, viewPointersOf, others, views-fields, hides-fields}
 use Rattle.board.proofs.Board.Laws as B′
 use Rattle.host.specs.Answers.{WritePacked}
 use Rattle.host.proofs.write_packed as write-packed
@@ -106,46 +106,47 @@ module _
         split ! $ move ! (2 ∷ []) $ fsplit ! $ fsplit3 ! $ keep ! (2 ∷ 4 ∷ 5 ∷ 3 ∷ []) $
         -- [the board's borrow; its token; the buffer's token; what the buffer and the place own]
         enter ! C Λ code.function (only (ptr-vals r) ∷ only (slice-vals out) ∷ vint w64 n ∷ []) _ $
-        alloc1 ! (λ l₀. alloc1 ! (λ l₁. alloc1 ! (λ l₂. alloc1 ! (λ l₃. alloc1 ! (λ l₄. alloc1 ! (λ l₅. alloc1 ! (λ l₆. alloc1 ! (λ l₇. alloc1 ! (λ l₈. alloc1 ! (λ l₉. alloc1 ! (λ l₁₀. alloc1 ! (λ l₁₁. alloc0 ! $ params1 ! $
-        pass1 ! (init ! 20 refl (tt, tt)) $ pass1 ! (init ! 18 refl (tt, (tt, (record { fits = room .0 }, tt)))) $ pass1 ! (init ! 16 refl (tt, record { fits = small })) $ pass0 ! $
+        alloc1 ! (λ l₀. alloc1 ! (λ l₁. alloc1 ! (λ l₂. alloc1 ! (λ l₃. alloc1 ! (λ l₄. alloc1 ! (λ l₅. alloc1 ! (λ l₆. alloc1 ! (λ l₇. alloc1 ! (λ l₈. alloc1 ! (λ l₉. alloc1 ! (λ l₁₀. alloc1 ! (λ l₁₁. alloc1 ! (λ l₁₂. alloc0 ! $ params1 ! $
+        pass1 ! (init ! 22 refl (tt, tt)) $ pass1 ! (init ! 20 refl (tt, (tt, (record { fits = room .0 }, tt)))) $ pass1 ! (init ! 18 refl (tt, record { fits = small })) $ pass0 ! $
         -- a share of the board, with its tables lent
-        move ! (24 ∷ 25 ∷ []) $ shr-bor-open ! tt
+        move ! (26 ∷ 27 ∷ []) $ shr-bor-open ! tt
         (part-halves 𝓤 H A W B.the-row (Is B.the-row) (shows 𝓤 H A B.the-row) (LL.vals B.the-type B′.the-laws) (LL.tells B.the-type B′.the-laws) (LL.copy B.the-type B′.the-copy 𝓤 H A W) h b o) (λ q′.
-        move ! (1 ∷ 27 ∷ []) $ views-fields ! tt q′ h b o passed (λ k fits.
-        -- [the tables' token; what they, the buffer and the place own; the lender's parts; the way back; live; the open borrow; _11; …; _10; …; _9; …; _8; …; _7; …; _6; …; _5; …; _4; …; _3; …; _2; …; _1; …; room for _0; …; the buffer's token]
-        assigns ! (of-opd ! (load ! (from ! (hop ! (look ! 26 refl) (fld ! refl (stop !)))) (look ! 4 refl))) (from ! (stop !)) (init ! 20 refl (tt, record { fits = fits })) $
-        assigns ! (addr ! (from ! (hop ! (look ! 26 refl) (fld ! refl (stop !))))) (from ! (stop !)) (init ! 18 refl (tt, tt)) $
-        assigns ! (addr ! (from ! (hop ! (look ! 26 refl) (fld ! refl (stop !))))) (from ! (stop !)) (init ! 16 refl (tt, tt)) $
-        assigns ! (addr ! (from ! (hop ! (look ! 26 refl) (fld ! refl (stop !))))) (from ! (stop !)) (init ! 14 refl (tt, tt)) $
-        assigns ! (addr ! (from ! (hop ! (look ! 26 refl) (fld ! refl (stop !))))) (from ! (stop !)) (init ! 12 refl (tt, tt)) $
-        assigns ! (addr ! (from ! (hop ! (look ! 26 refl) (fld ! refl (stop !))))) (from ! (stop !)) (init ! 10 refl (tt, tt)) $
-        -- _11 is the buffer's borrow again
-        assigns ! (addr ! (from ! (fld ! refl (hop ! (look-in ! 24 (sub ! 0 refl (whole !))) (stop !))))) (from ! (stop !)) (init ! 8 refl (tt, tt)) $
-        assigns ! (agg ! (and-then ! (load ! (from ! (stop !)) (look ! 8 refl)) (and-then ! (load ! (from ! (fld ! refl (stop !))) (look-in ! 24 (sub ! 1 refl (whole !)))) (no-more !))))
+        move ! (1 ∷ 29 ∷ []) $ views-fields ! tt q′ h b o passed (λ k fits.
+        -- [the tables' token; what they, the buffer and the place own; the lender's parts; the way back; live; the open borrow; _12; …; _11; …; _10; …; _9; …; _8; …; _7; …; _6; …; _5; …; _4; …; _3; …; _2; …; _1; …; room for _0; …; the buffer's token]
+        assigns ! (of-opd ! (load ! (from ! (hop ! (look ! 28 refl) (fld ! refl (stop !)))) (look ! 4 refl))) (from ! (stop !)) (init ! 22 refl (tt, record { fits = fits })) $
+        assigns ! (addr ! (from ! (hop ! (look ! 28 refl) (fld ! refl (stop !))))) (from ! (stop !)) (init ! 20 refl (tt, tt)) $
+        assigns ! (addr ! (from ! (hop ! (look ! 28 refl) (fld ! refl (stop !))))) (from ! (stop !)) (init ! 18 refl (tt, tt)) $
+        assigns ! (addr ! (from ! (hop ! (look ! 28 refl) (fld ! refl (stop !))))) (from ! (stop !)) (init ! 16 refl (tt, tt)) $
+        assigns ! (addr ! (from ! (hop ! (look ! 28 refl) (fld ! refl (stop !))))) (from ! (stop !)) (init ! 14 refl (tt, tt)) $
+        assigns ! (addr ! (from ! (hop ! (look ! 28 refl) (fld ! refl (stop !))))) (from ! (stop !)) (init ! 12 refl (tt, tt)) $
+        assigns ! (addr ! (from ! (hop ! (look ! 28 refl) (fld ! refl (stop !))))) (from ! (stop !)) (init ! 10 refl (tt, tt)) $
+        -- _12 is the buffer's borrow again
+        assigns ! (addr ! (from ! (fld ! refl (hop ! (look-in ! 26 (sub ! 0 refl (whole !))) (stop !))))) (from ! (stop !)) (init ! 8 refl (tt, tt)) $
+        assigns ! (agg ! (and-then ! (load ! (from ! (stop !)) (look ! 8 refl)) (and-then ! (load ! (from ! (fld ! refl (stop !))) (look-in ! 26 (sub ! 1 refl (whole !)))) (no-more !))))
         (from ! (stop !)) (init ! 6 refl (tt, (tt, (record { fits = room .0 }, tt)))) $
         -- what `write_packed` asks is put together
-        move ! (0 ∷ 30 ∷ 1 ∷ []) $ join ! $ join ! $ nothing ! $ move ! (1 ∷ 0 ∷ []) $ join ! $ use1 W (raw (Does 𝓤 H A at-mem run .pre (to-write k))) (id⊢ 𝓤 _) $
-        -- [what `write_packed` asks; the lender's parts; the way back; live; the open borrow; _11; …]
+        move ! (0 ∷ 32 ∷ 1 ∷ []) $ join ! $ join ! $ nothing ! $ move ! (1 ∷ 0 ∷ []) $ join ! $ use1 W (raw (Does 𝓤 H A at-mem run .pre (to-write k))) (id⊢ 𝓤 _) $
+        -- [what `write_packed` asks; the lender's parts; the way back; live; the open borrow; _12; …]
         calls-at ! fm (Does 𝓤 H A at-mem run) known (to-write k)
-        (and-then ! (load ! (from ! (stop !)) (look ! 19 refl)) (and-then ! (load ! (from ! (stop !)) (look ! 17 refl)) (and-then ! (load ! (from ! (stop !)) (look ! 15 refl)) (and-then ! (load ! (from ! (stop !)) (look ! 13 refl)) (and-then ! (load ! (from ! (stop !)) (look ! 11 refl)) (and-then ! (load ! (from ! (stop !)) (look ! 9 refl)) (and-then ! (load ! (from ! (stop !)) (look ! 5 refl)) (and-then ! (load ! (from ! (stop !)) (look ! 21 refl)) (no-more !))))))))) (λ w.
+        (and-then ! (load ! (from ! (stop !)) (look ! 21 refl)) (and-then ! (load ! (from ! (stop !)) (look ! 19 refl)) (and-then ! (load ! (from ! (stop !)) (look ! 17 refl)) (and-then ! (load ! (from ! (stop !)) (look ! 15 refl)) (and-then ! (load ! (from ! (stop !)) (look ! 13 refl)) (and-then ! (load ! (from ! (stop !)) (look ! 11 refl)) (and-then ! (load ! (from ! (stop !)) (look ! 9 refl)) (and-then ! (load ! (from ! (stop !)) (look ! 5 refl)) (and-then ! (load ! (from ! (stop !)) (look ! 23 refl)) (no-more !)))))))))) (λ w.
         use1 W (later (some (λ (m : ℕ). ((‵ (flft (k .lifetime ∷ []) fullShare) ⊛ ‵ (flft κ₁ q₁) ⊛ ‵ ftrue) ⊛ ‵ (u64 .own m (w ∷ []))) ⊛ raw (ensured 𝓤 H A write-packed.ended (write-packed.clauses 𝓤 H A at-mem run) (k .lifetime ∷ [], (κ₁, tt)) (to k) tt m))))
         (id⊢ 𝓤 _) $ await ! tt $ pick ! (λ m. split ! $ move ! (1 ∷ []) $
-        use1 W (some (λ (zs : Unit {0} × (Unit {0} × (Unit {0} × (Unit {0} × (Unit {0} × (Unit {0} × (List ℕ × (Unit {0} × Unit {0})))))))).
-        ‵ (lasts write-packed.ended (k .lifetime ∷ [], (κ₁, tt)) (to k) zs) ⊛ raw (fact 𝓤 (WritePacked h (out .now) n (zs .1 .1 .1 .1 .1 .1 .0) m)))) (id⊢ 𝓤 _) $
-        pick ! (λ zs. split ! $ move ! (1 ∷ []) $ heard ! (WritePacked h (out .now) n (zs .1 .1 .1 .1 .1 .1 .0) m) (λ e.
-        fsplit ! $ drop ! $ fsplit ! $ drop ! $ fsplit ! $ drop ! $ fsplit ! $ drop ! $ fsplit ! $ drop ! $ fsplit ! $ drop ! $ fsplit ! $ fsplit ! $ move ! (1 ∷ []) $ feqL ! (λ l.
+        use1 W (some (λ (zs : Unchanged (List ℕ × (Unit {0} × Unit {0}))).
+        ‵ (lasts write-packed.ended (k .lifetime ∷ [], (κ₁, tt)) (to k) zs) ⊛ raw (fact 𝓤 (WritePacked h (out .now) n (others zs .0) m)))) (id⊢ 𝓤 _) $
+        pick ! (λ zs. split ! $ move ! (1 ∷ []) $ heard ! (WritePacked h (out .now) n (others zs .0) m) (λ e.
+        fsplit ! $ drop ! $ fsplit ! $ drop ! $ fsplit ! $ drop ! $ fsplit ! $ drop ! $ fsplit ! $ drop ! $ fsplit ! $ drop ! $ fsplit ! $ drop ! $ fsplit ! $ fsplit ! $ move ! (1 ∷ []) $ feqL ! (λ l.
         move ! (2 ∷ []) $ split ! $ move ! (1 ∷ []) $
-        -- [the result; the tokens; the last buffer; …; the lender's parts; the way back; live; the open borrow; _11; …]
-        peeks ! u64 (Is u64) (shows 𝓤 H A u64) m (w ∷ []) (λ is. land ! (from ! (stop !)) (init ! 30 refl (uint-lawful 𝓤 H A W w64 .typed m _ is .0)) $
+        -- [the result; the tokens; the last buffer; …; the lender's parts; the way back; live; the open borrow; _12; …]
+        peeks ! u64 (Is u64) (shows 𝓤 H A u64) m (w ∷ []) (λ is. land ! (from ! (stop !)) (init ! 32 refl (uint-lawful 𝓤 H A W w64 .typed m _ is .0)) $
         -- the tables come back, and the share is put back
         move ! (1 ∷ []) $ split ! $ move ! (0 ∷ 5 ∷ 6 ∷ 7 ∷ []) $ hides-fields ! tt k q′ h b o $ move ! (5 ∷ 0 ∷ []) $ obor-close ! tt $
-        -- [the board's borrow; its token; the buffer's token; the result; the last buffer; …; _11; …]
-        returns ! (look ! 28 refl) $ forget ! 6 refl $ forget ! 8 refl $ forget ! 10 refl $ forget ! 12 refl $ forget ! 14 refl $ forget ! 16 refl $ forget ! 18 refl $ forget ! 20 refl $ forget ! 22 refl $ forget ! 24 refl $ forget ! 26 refl $ forget ! 28 refl $
-        move ! (28 ∷ 29 ∷ []) $ free1 ! $ move ! (26 ∷ 27 ∷ []) $ free1 ! $ move ! (24 ∷ 25 ∷ []) $ free1 ! $ move ! (22 ∷ 23 ∷ []) $ free1 ! $ move ! (20 ∷ 21 ∷ []) $ free1 ! $ move ! (18 ∷ 19 ∷ []) $ free1 ! $ move ! (16 ∷ 17 ∷ []) $ free1 ! $ move ! (14 ∷ 15 ∷ []) $ free1 ! $ move ! (12 ∷ 13 ∷ []) $ free1 ! $ move ! (10 ∷ 11 ∷ []) $ free1 ! $ move ! (8 ∷ 9 ∷ []) $ free1 ! $ move ! (6 ∷ 7 ∷ []) $ free1 ! $ free0 ! $
+        -- [the board's borrow; its token; the buffer's token; the result; the last buffer; …; _12; …]
+        returns ! (look ! 30 refl) $ forget ! 6 refl $ forget ! 8 refl $ forget ! 10 refl $ forget ! 12 refl $ forget ! 14 refl $ forget ! 16 refl $ forget ! 18 refl $ forget ! 20 refl $ forget ! 22 refl $ forget ! 24 refl $ forget ! 26 refl $ forget ! 28 refl $ forget ! 30 refl $
+        move ! (30 ∷ 31 ∷ []) $ free1 ! $ move ! (28 ∷ 29 ∷ []) $ free1 ! $ move ! (26 ∷ 27 ∷ []) $ free1 ! $ move ! (24 ∷ 25 ∷ []) $ free1 ! $ move ! (22 ∷ 23 ∷ []) $ free1 ! $ move ! (20 ∷ 21 ∷ []) $ free1 ! $ move ! (18 ∷ 19 ∷ []) $ free1 ! $ move ! (16 ∷ 17 ∷ []) $ free1 ! $ move ! (14 ∷ 15 ∷ []) $ free1 ! $ move ! (12 ∷ 13 ∷ []) $ free1 ! $ move ! (10 ∷ 11 ∷ []) $ free1 ! $ move ! (8 ∷ 9 ∷ []) $ free1 ! $ move ! (6 ∷ 7 ∷ []) $ free1 ! $ free0 ! $
         -- the exit: the two tokens, the last buffer, and the result
-        suffices ! _ (ends-at 𝓤 H A board-write.ended stayed (board-write.clauses 𝓤 H A at-mem run) W here w m (tt, (zs .1 .1 .1 .1 .1 .1 .0, (tt, tt))) (tt, (l, (tt, tt)))) $ says ! e $
+        suffices ! _ (ends-at 𝓤 H A board-write.ended stayed (board-write.clauses 𝓤 H A at-mem run) W here w m (tt, (others zs .0, (tt, tt))) (tt, (l, (tt, tt)))) $ says ! e $
         keep ! (1 ∷ 2 ∷ 4 ∷ 3 ∷ []) $ join ! $ frame ! $
-        nothing ! $ nothing ! $ fjoin ! $ move ! (1 ∷ 0 ∷ []) $ fjoin ! $ nothing ! $ fjoin ! $ done !))))))))))))))))))))
+        nothing ! $ nothing ! $ fjoin ! $ move ! (1 ∷ 0 ∷ []) $ fjoin ! $ nothing ! $ fjoin ! $ done !)))))))))))))))))))))
 
 pub board-write-spec : {M : Type 1} → stated.statement M
 unfolding code.routine tablesOf

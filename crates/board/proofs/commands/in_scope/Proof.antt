@@ -1,7 +1,8 @@
 use mathlib.Core.Path.{_∙_, ap}
 use mathlib.Core.Bool.{Bool, _||_}
+use native.Mathlib.Omega.{arith}
 use Rattle.sets.specs.Sets.{same?}
-use Rattle.board.proofs.Trying.{scoped-1, scoped-2, scoped-3}
+use Rattle.board.proofs.Trying.{code-low, scoped-1, scoped-2, scoped-3, scoped-6}
 use borrow.Author.Needs.{needs}
 use Rattle.board.proofs.commands.in_scope.Statement.{statement}
 use Rattle.board.proofs.commands.in_scope.Tie as tie
@@ -29,8 +30,12 @@ with-requires c κs = search needs
 
 returns-3 : tie.Need-returns-3
 returns-3 c = let s = c .before .before .before .before .before .before .before .before in
-    λ x. c .with .ensures x ∙ ap (λ (p : Bool). p || same? (s .args .c .junior) x) (c .before .before .single .ensures x)
-    ∙ scoped-3 (s .args .c) (s .pre) x (c .before .before .before .before .before .before .if1 .left) (c .before .before .before .before .if2 .left)
+    λ x. c .before .before .single .ensures x ∙ scoped-6 (s .args .c) (s .pre) x (c .if3 .taken)
+
+returns-4 : tie.Need-returns-4
+returns-4 c = let s = c .before .before .before .before .before .before .before .before .before .before in
+    λ x. c .with .ensures x ∙ ap (λ (p : Bool). p || same? (s .args .c .junior) x) (c .before .before .before .before .single .ensures x)
+    ∙ scoped-3 (s .args .c) (s .pre) x (omega (arith, code-low (s .args .c) (s .pre)), omega arith)
 
 pub in-scope-spec : {M : Type 1} → statement M
 in-scope-spec =
@@ -41,6 +46,7 @@ in-scope-spec =
     returns-2
     cast-single
     single-requires
+    returns-3
     cast-with
     with-requires
-    returns-3)
+    returns-4)

@@ -1,7 +1,7 @@
 use mathlib.Core.Path.{sym, _∙_}
 use Prim.Native.Nat.{_≤_}
 use native.Mathlib.Omega.{arith}
-use Rattle.board.proofs.Blaming.{named-only, named-senior, named-junior}
+use Rattle.board.proofs.Blaming.{named-only, named-senior, named-edge, named-junior}
 use Rattle.board.proofs.Trying.{code-low, role-lt, junior-lt}
 use borrow.Author.Needs.{needs}
 use Rattle.board.proofs.commands.offending_end.Statement.{statement}
@@ -29,7 +29,8 @@ returns-2 : tie.Need-returns-2
 returns-2 c =
     let s = c .before .before .before .before .before .before in
     let edge = c .before .before .if1 .left in
-    (junior-lt (s .args .c) (s .pre .0) (omega (arith, low s, edge)), named-junior (s .args .all) (s .args .c) (low s) (s .pre .1 .1) edge (sym (c .before .has .ensures) ∙ c .if2 .taken))
+    let inside = sym (c .before .has .ensures) ∙ c .if2 .taken in
+    (junior-lt (s .args .c) (s .pre .0) (named-edge (s .args .all) (s .args .c) (low s) (s .pre .1 .1) edge inside), named-junior (s .args .all) (s .args .c) (low s) (s .pre .1 .1) edge inside)
 
 returns-3 : tie.Need-returns-3
 returns-3 c =

@@ -19,7 +19,7 @@ decide-requires : tie.Need-decide-requires
 decide-requires c κs = search needs
 
 returns-2 : tie.Need-returns-2
-returns-2 c = decided-viewed (holds (c .before .before .before .before .before .before .before .before .sound-of .ensures) (not-false _ (c .before .before .before .before .before .before .before .if1 .left))) (c .decide .ensures)
+returns-2 c = decided-viewed (holds (c .before .before .before .before .before .before .before .before .before .sound-of .ensures) (not-false _ (c .before .before .before .before .before .before .before .before .if1 .left))) (c .decide .ensures)
 
 pub settle-spec : {M : Type 1} → statement M
 settle-spec = tie.close (tie.spec sound-of-requires plain-requires returns decide-requires returns-2)

@@ -1,4 +1,4 @@
--- `board::lent::apply_in_place` meets its contract: a walk of its MIR, by hand. The borrow is opened, the board's six fields are lent to `settle`
+-- `board::lent::apply_in_place` meets its contract: a walk of its MIR, by hand. The borrow is opened, the board's seven fields are lent to `settle`
 -- where they lie, each for a lifetime made for the call, and the borrow is closed at the board that they are afterwards.
 -- All that the proof knows of `settle` is that it meets its contract. Assumes nothing.
 use mathlib.Core.Path.{refl}
@@ -99,37 +99,38 @@ module _
         split ! $ move ! (2 ∷ []) $ fsplit ! $ fsplit3 ! $ keep ! (1 ∷ 2 ∷ 4 ∷ 3 ∷ []) $
         -- [obs; the borrow; the token; what the command owns]
         enter ! C Λ code.function (only (ptr-vals r) ∷ ofCommand c ∷ []) _ $
-        alloc1 ! (λ l₀. alloc1 ! (λ l₁. alloc1 ! (λ l₂. alloc1 ! (λ l₃. alloc1 ! (λ l₄. alloc1 ! (λ l₅. alloc1 ! (λ l₆. alloc1 ! (λ l₇. alloc1 ! (λ l₈. alloc0 ! $ params1 ! $
-        pass1 ! (init ! 14 refl (tt, tt)) $ pass1 ! (init ! 12 refl (LL.lawful Cm.the-type Cm′.the-laws 𝓤 H A W .typed c _ gc .0)) $ pass0 ! $
-        -- [_8; …; _7; …; _6; …; _5; …; _4; …; _3; …; _2; …; _1; …; room for _0; …; obs; …]: the addresses of the fields
-        assigns ! (addr ! (from ! (hop ! (look ! 14 refl) (fld ! refl (stop !))))) (from ! (stop !)) (init ! 10 refl (tt, tt)) $
-        assigns ! (addr ! (from ! (hop ! (look ! 14 refl) (fld ! refl (stop !))))) (from ! (stop !)) (init ! 8 refl (tt, tt)) $
-        assigns ! (addr ! (from ! (hop ! (look ! 14 refl) (fld ! refl (stop !))))) (from ! (stop !)) (init ! 6 refl (tt, tt)) $
-        assigns ! (addr ! (from ! (hop ! (look ! 14 refl) (fld ! refl (stop !))))) (from ! (stop !)) (init ! 4 refl (tt, tt)) $
-        assigns ! (addr ! (from ! (hop ! (look ! 14 refl) (fld ! refl (stop !))))) (from ! (stop !)) (init ! 2 refl (tt, tt)) $
-        assigns ! (addr ! (from ! (hop ! (look ! 14 refl) (fld ! refl (stop !))))) (from ! (stop !)) (init ! 0 refl (tt, tt)) $
+        alloc1 ! (λ l₀. alloc1 ! (λ l₁. alloc1 ! (λ l₂. alloc1 ! (λ l₃. alloc1 ! (λ l₄. alloc1 ! (λ l₅. alloc1 ! (λ l₆. alloc1 ! (λ l₇. alloc1 ! (λ l₈. alloc1 ! (λ l₉. alloc0 ! $ params1 ! $
+        pass1 ! (init ! 16 refl (tt, tt)) $ pass1 ! (init ! 14 refl (LL.lawful Cm.the-type Cm′.the-laws 𝓤 H A W .typed c _ gc .0)) $ pass0 ! $
+        -- [_9; …; _8; …; _7; …; _6; …; _5; …; _4; …; _3; …; _2; …; _1; …; room for _0; …; obs; …]: the addresses of the fields
+        assigns ! (addr ! (from ! (hop ! (look ! 16 refl) (fld ! refl (stop !))))) (from ! (stop !)) (init ! 12 refl (tt, tt)) $
+        assigns ! (addr ! (from ! (hop ! (look ! 16 refl) (fld ! refl (stop !))))) (from ! (stop !)) (init ! 10 refl (tt, tt)) $
+        assigns ! (addr ! (from ! (hop ! (look ! 16 refl) (fld ! refl (stop !))))) (from ! (stop !)) (init ! 8 refl (tt, tt)) $
+        assigns ! (addr ! (from ! (hop ! (look ! 16 refl) (fld ! refl (stop !))))) (from ! (stop !)) (init ! 6 refl (tt, tt)) $
+        assigns ! (addr ! (from ! (hop ! (look ! 16 refl) (fld ! refl (stop !))))) (from ! (stop !)) (init ! 4 refl (tt, tt)) $
+        assigns ! (addr ! (from ! (hop ! (look ! 16 refl) (fld ! refl (stop !))))) (from ! (stop !)) (init ! 2 refl (tt, tt)) $
+        assigns ! (addr ! (from ! (hop ! (look ! 16 refl) (fld ! refl (stop !))))) (from ! (stop !)) (init ! 0 refl (tt, tt)) $
         -- the borrow is opened, the fields are lent, and what `settle` asks is put together
-        move ! (18 ∷ 19 ∷ 20 ∷ []) $ open-ref ! tt (mem B.the-row) {x = r .now} {b = b} {o = o} $ move ! (0 ∷ 22 ∷ []) $ lends-fields ! tt (r .now) b o passed (λ k.
+        move ! (20 ∷ 21 ∷ 22 ∷ []) $ open-ref ! tt (mem B.the-row) {x = r .now} {b = b} {o = o} $ move ! (0 ∷ 24 ∷ []) $ lends-fields ! tt (r .now) b o passed (λ k.
         join ! $ nothing ! $ move ! (1 ∷ 0 ∷ []) $ join ! $ use1 W (raw (Does 𝓤 H A at-mem run .pre (to-settle k))) (id⊢ 𝓤 _) $
-        -- [what `settle` asks; the lender's parts; the way back; the open borrow; obs; auth; _8; …]
+        -- [what `settle` asks; the lender's parts; the way back; the open borrow; obs; auth; _9; …]
         calls-at ! fm (Does 𝓤 H A at-mem run) known (to-settle k)
-        (and-then ! (load ! (from ! (stop !)) (look ! 16 refl)) (and-then ! (load ! (from ! (stop !)) (look ! 14 refl)) (and-then ! (load ! (from ! (stop !)) (look ! 12 refl)) (and-then ! (load ! (from ! (stop !)) (look ! 10 refl)) (and-then ! (load ! (from ! (stop !)) (look ! 8 refl)) (and-then ! (load ! (from ! (stop !)) (look ! 6 refl)) (and-then ! (load ! (from ! (stop !)) (look ! 18 refl)) (no-more !)))))))) (λ w.
+        (and-then ! (load ! (from ! (stop !)) (look ! 18 refl)) (and-then ! (load ! (from ! (stop !)) (look ! 16 refl)) (and-then ! (load ! (from ! (stop !)) (look ! 14 refl)) (and-then ! (load ! (from ! (stop !)) (look ! 12 refl)) (and-then ! (load ! (from ! (stop !)) (look ! 10 refl)) (and-then ! (load ! (from ! (stop !)) (look ! 8 refl)) (and-then ! (load ! (from ! (stop !)) (look ! 6 refl)) (and-then ! (load ! (from ! (stop !)) (look ! 20 refl)) (no-more !))))))))) (λ w.
         use1 W (later (some (λ (n : Answer). (‵ (tokensOf k) ⊛ ‵ (An.the-row .own n (w ∷ []))) ⊛ raw (ensured 𝓤 H A settle.ended (settle.clauses 𝓤 H A at-mem run) (lifetimesOf k tt) (to k) tt n))))
         (id⊢ 𝓤 _) $ await ! tt $ pick ! (λ n. split ! $ move ! (1 ∷ []) $
         use1 W (some (λ (zs : Lasts (Unit {0} × Unit {0})). ‵ (lastsOf k (boardOfLasts zs) (fsep ftrue ftrue)) ⊛ raw (fact 𝓤 (Decided (r .now) c n (boardOfLasts zs))))) (id⊢ 𝓤 _) $
         pick ! (λ zs. split ! $ move ! (1 ∷ []) $ heard ! (Decided (r .now) c n (boardOfLasts zs)) (λ e. move ! (1 ∷ []) $ split ! $ move ! (1 ∷ []) $
-        -- [the result; the fields' tokens; the last values; the lender's parts; the way back; the open borrow; obs; auth; _8; …]
+        -- [the result; the fields' tokens; the last values; the lender's parts; the way back; the open borrow; obs; auth; _9; …]
         peeks ! An.the-row (Is An.the-row) (shows 𝓤 H A An.the-row) n (w ∷ []) (λ is.
-        land ! (from ! (stop !)) (init ! 24 refl (LL.lawful An.the-type An′.the-laws 𝓤 H A W .typed n _ is .0)) $
+        land ! (from ! (stop !)) (init ! 26 refl (LL.lawful An.the-type An′.the-laws 𝓤 H A W .typed n _ is .0)) $
         -- the fields come back, and the borrow is closed
         move ! (1 ∷ 2 ∷ 3 ∷ 4 ∷ []) $ takes-fields ! tt k (boardOfLasts zs) b o (fsep ftrue ftrue) $ move ! (0 ∷ 2 ∷ 3 ∷ 4 ∷ []) $ close-ref ! tt (mem B.the-row) (boardOfLasts zs) {b = b} {o = o} $
-        -- [obs; the borrow; the token; the result; _8; …]
-        returns ! (look ! 20 refl) $ forget ! 4 refl $ forget ! 6 refl $ forget ! 8 refl $ forget ! 10 refl $ forget ! 12 refl $ forget ! 14 refl $ forget ! 16 refl $ forget ! 18 refl $ forget ! 20 refl $
-        move ! (20 ∷ 21 ∷ []) $ free1 ! $ move ! (18 ∷ 19 ∷ []) $ free1 ! $ move ! (16 ∷ 17 ∷ []) $ free1 ! $ move ! (14 ∷ 15 ∷ []) $ free1 ! $ move ! (12 ∷ 13 ∷ []) $ free1 ! $ move ! (10 ∷ 11 ∷ []) $ free1 ! $ move ! (8 ∷ 9 ∷ []) $ free1 ! $ move ! (6 ∷ 7 ∷ []) $ free1 ! $ move ! (4 ∷ 5 ∷ []) $ free1 ! $ free0 ! $
+        -- [obs; the borrow; the token; the result; _9; …]
+        returns ! (look ! 22 refl) $ forget ! 4 refl $ forget ! 6 refl $ forget ! 8 refl $ forget ! 10 refl $ forget ! 12 refl $ forget ! 14 refl $ forget ! 16 refl $ forget ! 18 refl $ forget ! 20 refl $ forget ! 22 refl $
+        move ! (22 ∷ 23 ∷ []) $ free1 ! $ move ! (20 ∷ 21 ∷ []) $ free1 ! $ move ! (18 ∷ 19 ∷ []) $ free1 ! $ move ! (16 ∷ 17 ∷ []) $ free1 ! $ move ! (14 ∷ 15 ∷ []) $ free1 ! $ move ! (12 ∷ 13 ∷ []) $ free1 ! $ move ! (10 ∷ 11 ∷ []) $ free1 ! $ move ! (8 ∷ 9 ∷ []) $ free1 ! $ move ! (6 ∷ 7 ∷ []) $ free1 ! $ move ! (4 ∷ 5 ∷ []) $ free1 ! $ free0 ! $
         -- the exit: the token, the borrow, what the command owns, and the result
         suffices ! _ (ends-at 𝓤 H A apply.ended stayed (apply.clauses 𝓤 H A at-mem run) W here w n (boardOfLasts zs, (tt, tt)) (tt, (tt, tt))) $ says ! e $
         nothing ! $ move ! (3 ∷ 0 ∷ []) $ join ! $ frame ! $ feqI ! (List Val) (ptr-vals r) (ptr-vals r) refl $ fjoin3 ! $ nothing ! $
-        owned ! Cm.the-row (Is Cm.the-row) (LL.makes Cm.the-type Cm′.the-plain 𝓤 H A) c _ gc $ fjoin ! $ move ! (1 ∷ 0 ∷ []) $ fjoin ! $ done !)))))))))))))))
+        owned ! Cm.the-row (Is Cm.the-row) (LL.makes Cm.the-type Cm′.the-plain 𝓤 H A) c _ gc $ fjoin ! $ move ! (1 ∷ 0 ∷ []) $ fjoin ! $ done !))))))))))))))))
 
 pub apply-in-place-spec : {M : Type 1} → stated.statement M
 unfolding code.routine tablesOf

@@ -3,7 +3,7 @@ use Rattle.board.specs.Boards.{boardOf}
 use Rattle.board.specs.Commands.{Decided}
 use Rattle.board.specs.declared.Board.{Board}
 use Rattle.board.proofs.Viewing.{decided-viewed}
-use Rattle.boardfile.specs.Answers.{CommandAnswer.refused}
+use Rattle.boardfile.specs.Answers.{ReadAnswer, CommandAnswer.refused}
 use Rattle.boardfile.proofs.Readings.{sound, read-refused, read-done}
 use Rattle.boardfile.proofs.Commanding.{unread-as, wanting, finished}
 use borrow.Author.Needs.{needs}
@@ -15,13 +15,16 @@ open-requires c κs = search needs
 
 -- the board of the file, and what the command left of it
 abbrev opened : tie.After-decide → Board
-opened c = let o = c .before .before .before .before .before .before .before .before .before .«open» in boardOf (o .result .live) (o .last .1 .0) (o .last .1 .1 .0) (o .last .1 .1 .1 .0) (o .last .1 .1 .1 .1 .0) (o .last .1 .1 .1 .1 .1 .0)
+opened c = let o = c .before .before .before .before .before .before .before .before .before .before .«open» in boardOf (o .result .live) (o .last .1 .0) (o .last .1 .1 .0) (o .last .1 .1 .1 .0) (o .last .1 .1 .1 .1 .0) (o .last .1 .1 .1 .1 .1 .0) (o .last .1 .1 .1 .1 .1 .1 .0)
 
 abbrev next : tie.After-decide → Board
-next c = let d = c .decide in boardOf (d .last .0) (d .last .1 .0) (d .last .1 .1 .0) (d .last .1 .1 .1 .0) (d .last .1 .1 .1 .1 .0) (d .last .1 .1 .1 .1 .1 .0)
+next c = let d = c .decide in boardOf (d .last .0) (d .last .1 .0) (d .last .1 .1 .0) (d .last .1 .1 .1 .0) (d .last .1 .1 .1 .1 .0) (d .last .1 .1 .1 .1 .1 .0) (d .last .1 .1 .1 .1 .1 .1 .0)
 
-decided : (c : tie.After-decide) → Decided (opened c) (c .before .before .before .before .before .before .before .before .before .before .before .before .before .before .before .before .before .args .c) (c .decide .result) (next c)
-decided c = decided-viewed (sound (c .before .before .before .before .before .before .before .before .before .«open» .ensures) (c .before .before .before .before .before .before .before .if1 .left)) (c .decide .ensures)
+has-read : (c : tie.After-decide) → ReadAnswer (c .before .before .before .before .before .before .before .before .before .before .before .before .before .before .before .before .before .before .before .args .file .now) 0 (opened c)
+has-read c = read-done (c .before .before .before .before .before .before .before .before .before .before .«open» .ensures) (c .before .before .before .before .before .before .before .before .if1 .left)
+
+decided : (c : tie.After-decide) → Decided (opened c) (c .before .before .before .before .before .before .before .before .before .before .before .before .before .before .before .before .before .before .before .args .c) (c .decide .result) (next c)
+decided c = decided-viewed (sound (c .before .before .before .before .before .before .before .before .before .before .«open» .ensures) (c .before .before .before .before .before .before .before .before .if1 .left)) (c .decide .ensures)
 
 plain-requires : tie.Need-plain-requires
 plain-requires c κs = search needs
@@ -33,7 +36,7 @@ decide-requires : tie.Need-decide-requires
 decide-requires c κs = search needs
 
 returns-2 : tie.Need-returns-2
-returns-2 c = refused (read-done (c .before .before .before .before .before .before .before .before .before .before .before .«open» .ensures) (c .before .before .before .before .before .before .before .before .before .if1 .left)) (decided (c .before .before)) (c .if2 .taken) refl
+returns-2 c = refused (has-read (c .before .before)) (decided (c .before .before)) (c .if2 .taken) refl
 
 put-requires : tie.Need-put-requires
 put-requires c κs = search needs
@@ -45,13 +48,13 @@ same-length : tie.Need-same-length
 same-length c = search needs
 
 returns-3 : tie.Need-returns-3
-returns-3 c = wanting (read-done (c .before .before .before .before .before .before .before .before .before .before .before .before .before .before .before .before .before .before .before .before .«open» .ensures) (c .before .before .before .before .before .before .before .before .before .before .before .before .before .before .before .before .before .before .if1 .left)) (decided (c .before .before .before .before .before .before .before .before .before .before .before)) (c .before .before .before .before .before .before .before .before .before .if2 .left) (c .before .before .before .before .before .put .ensures) (c .before .if3 .taken) (c .plain2 .ensures)
+returns-3 c = let d = c .before .before .before .before .before .before .before .before .before .before .before .before in wanting (has-read d) (decided d) (c .before .before .before .before .before .before .before .before .before .before .if2 .left) (c .before .before .before .before .before .put .ensures) (c .before .if3 .taken) (c .plain2 .ensures)
 
 same-length-2 : tie.Need-same-length-2
 same-length-2 c = search needs
 
 returns-4 : tie.Need-returns-4
-returns-4 c = finished (read-done (c .before .before .before .before .before .before .before .before .before .before .before .before .before .before .before .before .before .before .before .«open» .ensures) (c .before .before .before .before .before .before .before .before .before .before .before .before .before .before .before .before .before .if1 .left)) (decided (c .before .before .before .before .before .before .before .before .before .before)) (c .before .before .before .before .before .before .before .before .if2 .left) (c .before .before .before .before .put .ensures) (c .if3 .left)
+returns-4 c = let d = c .before .before .before .before .before .before .before .before .before .before .before in finished (has-read d) (decided d) (c .before .before .before .before .before .before .before .before .before .if2 .left) (c .before .before .before .before .put .ensures) (c .if3 .left)
 
 pub command-spec : {M : Type 1} → statement M
 command-spec =

@@ -1,44 +1,57 @@
-use mathlib.Core.Logic.{inl, inr}
+use mathlib.Core.Logic.{⊎-elim}
 use borrow.Author.Tests.{eqb-true, eqb-false}
-use Rattle.boardfile.specs.Parts.{Marked}
-use Rattle.boardfile.proofs.Frames.{by-test}
 use borrow.Author.Needs.{needs}
 use Rattle.boardfile.proofs.frame.marked.Statement.{statement}
 use Rattle.boardfile.proofs.frame.marked.Tie as tie
 
-sub-if1 : tie.Need-sub-if1
-sub-if1 c = search needs
+sub-first : tie.Need-sub-first
+sub-first c = search needs
 
-shared-slice-read-if1 : tie.Need-shared-slice-read-if1
-shared-slice-read-if1 c = search needs
+shared-slice-read-first : tie.Need-shared-slice-read-first
+shared-slice-read-first c = search needs
+
+sub-last : tie.Need-sub-last
+sub-last c = search needs
+
+shared-slice-read-last : tie.Need-shared-slice-read-last
+shared-slice-read-last c = search needs
 
 array-read-if1 : tie.Need-array-read-if1
 array-read-if1 c = search needs
 
+array-read-if2 : tie.Need-array-read-if2
+array-read-if2 c = search needs
+
 returns : tie.Need-returns
-returns c = inl (c .if1 .taken)
+returns c = (c .before .if1 .taken, eqb-true _ _ (c .if2 .taken))
 
-sub-result : tie.Need-sub-result
-sub-result c = search needs
+array-read-if3 : tie.Need-array-read-if3
+array-read-if3 c = search needs
 
-shared-slice-read-result : tie.Need-shared-slice-read-result
-shared-slice-read-result c = search needs
-
-array-read-result : tie.Need-array-read-result
-array-read-result c = search needs
+array-read-if4 : tie.Need-array-read-if4
+array-read-if4 c = search needs
 
 returns-2 : tie.Need-returns-2
-returns-2 c = by-test (Marked (c .before .before .before .args .file .now)) _ (λ e. (c .before .if1 .left, eqb-true _ _ e)) (λ e. inr (eqb-false _ _ e))
+returns-2 c = (c .before .if3 .taken, eqb-true _ _ (c .if4 .taken))
+
+returns-3 : tie.Need-returns-3
+returns-3 c = (
+  λ h. ⊎-elim (λ w. eqb-false _ _ (w .1 .left) (h .1)) (λ w. w .left (h .0)) (c .before .if1 .came),
+  λ h. ⊎-elim (λ w. eqb-false _ _ (w .1 .left) (h .1)) (λ w. w .left (h .0)) (c .if3 .came),
+)
 
 pub marked-spec : {M : Type 1} → statement M
 marked-spec =
     tie.close
     (tie.spec
-    sub-if1
-    shared-slice-read-if1
+    sub-first
+    shared-slice-read-first
+    sub-last
+    shared-slice-read-last
     array-read-if1
+    array-read-if2
     returns
-    sub-result
-    shared-slice-read-result
-    array-read-result
-    returns-2)
+    array-read-if3
+    array-read-if4
+    returns-2
+    returns-3)

@@ -37,7 +37,7 @@ start-of-requires-2 : tie.Need-start-of-requires-2
 start-of-requires-2 c κs = search needs
 
 sub-len : tie.Need-sub-len
-sub-len c = omega (arith, c .before .start-of .ensures, c .start-of2 .ensures, up-to-it (given (c .before .before .before .before .before)) (c .before .before .before .before .before .args .role) (omega arith))
+sub-len c = omega (arith, c .before .start-of .ensures, c .start-of2 .ensures, up-to-it (given (c .before .before .before .before .before)) (c .before .before .before .before .before .args .role))
 
 nothing-requires-3 : tie.Need-nothing-requires-3
 nothing-requires-3 c κs = search needs

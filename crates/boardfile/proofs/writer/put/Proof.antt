@@ -7,7 +7,7 @@ use borrow.Author.Tests.{ltb-true, ltb-false}
 use Rattle.hierarchy.specs.Tables.{Tables, tables, kind}
 use Rattle.boardfile.specs.Files.{from, edge?, kindAt, fileOf}
 use Rattle.boardfile.specs.Answers.{NoRoom.past-end, NoRoom.too-few}
-use Rattle.boardfile.proofs.Filed.{sizes-few, file-long, file-room, no-room, filed}
+use Rattle.boardfile.proofs.Filed.{sizes-few, tail-few, file-long, file-room, no-room, filed}
 use borrow.Author.Needs.{needs}
 use Rattle.boardfile.proofs.writer.put.Statement.{statement}
 use Rattle.boardfile.proofs.writer.put.Tie as tie
@@ -32,17 +32,27 @@ edges-are c = c .edges-below .ensures
 few : (c : tie.After-edges-below) → (c .before .size .result ≤ 64) × (c .edges-below .result ≤ 4096)
 few c = sizes-few (given (c .before .before .before)) (c .before .before .before .fits .live .fits) (c .before .size .ensures) (edges-are c)
 
-long : (c : tie.After-edges-below) → c .before .size .result + 3 * c .edges-below .result + 6 ≡ length (fileOf (given (c .before .before .before)))
-long c = file-long (given (c .before .before .before)) (c .before .before .before .fits .live .fits) (c .before .size .ensures) (edges-are c)
+long : (c : tie.After-tail-len) → let s = c .before .before .before .before .before in
+    c .before .before .before .size .result + 3 * c .before .before .edges-below .result + c .tail-len .result ≡ length (fileOf (given s) (s .args .rights .now))
+long c =
+    let e = c .before .before in
+    let s = e .before .before .before in
+    file-long (given s) (s .fits .live .fits) (e .before .size .ensures) (edges-are e) (s .args .rights .now) (c .before .founding .ensures) (c .tail-len .ensures)
 
 mul-edges : tie.Need-mul-edges
 mul-edges c = let h = few c in omega arith
 
+founding-requires : tie.Need-founding-requires
+founding-requires c κs = search needs
+
 add-len : tie.Need-add-len
-add-len c = let h = few c in omega arith
+add-len c = let h = few (c .before) in omega arith
+
+tail-len-requires : tie.Need-tail-len-requires
+tail-len-requires c κs = few (c .before) .0
 
 add-len-2 : tie.Need-add-len-2
-add-len-2 c = let h = few c in omega arith
+add-len-2 c = let h = few (c .before .before) in omega (arith, c .tail-len .ensures, tail-few (c .before .founding .result) (c .before .before .before .size .result))
 
 sub-if2 : tie.Need-sub-if2
 sub-if2 c = search needs
@@ -50,7 +60,7 @@ sub-if2 c = search needs
 returns : tie.Need-returns
 returns c = no-room (⊎-elim
     (λ w. past-end (w .taken))
-    (λ w. too-few (subst (λ (n : ℕ). length (c .before .before .before .before .args .out .now) - c .before .before .before .before .args .at < n) (long (c .before)) (ltb-true _ _ (w .1 .taken))))
+    (λ w. too-few (subst (λ (n : ℕ). length (c .before .before .before .before .before .before .args .out .now) - c .before .before .before .before .before .before .args .at < n) (long (c .before)) (ltb-true _ _ (w .1 .taken))))
     (c .if1 .came))
 
 sub-put-file : tie.Need-sub-put-file
@@ -63,14 +73,20 @@ part-put-file-end : tie.Need-part-put-file-end
 part-put-file-end c = search needs
 
 put-file-requires : tie.Need-put-file-requires
-put-file-requires c κs = file-room (given (c .before .before .before .before .before .before)) (c .before .before .before .before .before .before .fits .live .fits) (c .before .before .before .before .size .ensures) (edges-are (c .before .before .before)) (c .before .before .before .before .before .before .args .out .now) (c .before .before .before .before .before .before .args .at)
+put-file-requires c κs =
+    let l = c .before .before .before in
+    let e = l .before .before in
+    let s = e .before .before .before in
+    file-room (given s) (s .fits .live .fits) (e .before .size .ensures) (edges-are e) (s .args .rights .now) (l .before .founding .ensures) (l .tail-len .ensures) (s .args .out .now) (s .args .at)
     (c .before .before .if1 .left) (ltb-false _ _ (c .before .if2 .left))
 
 same-length : tie.Need-same-length
 same-length c = search needs
 
 returns-2 : tie.Need-returns-2
-returns-2 c = filed _ (long (c .before .before .before .before .before .before)) (c .before .before .before .before .before .if1 .left) (ltb-false _ _ (c .before .before .before .before .if2 .left)) (c .before .before .put-file .last .1 .1 .1 .1 .1 .0) (c .before .before .put-file .ensures)
+returns-2 c =
+    let w = c .before .before .before .before in
+    filed _ (long (w .before .before)) (w .before .if1 .left) (ltb-false _ _ (w .if2 .left)) (c .before .before .put-file .last .1 .1 .1 .1 .1 .1 .1 .0) (c .before .before .put-file .ensures)
 
 pub put-spec : {M : Type 1} → statement M
 put-spec =
@@ -80,7 +96,9 @@ put-spec =
     cast-roles
     edges-below-requires
     mul-edges
+    founding-requires
     add-len
+    tail-len-requires
     add-len-2
     sub-if2
     returns

@@ -1,10 +1,10 @@
 use borrow.Author.Needs.{needs}
 use Prim.Native.Nat.{_+_, _-_, _≤_}
 use native.Mathlib.Omega.{arith}
-use lib.ListN.{length, getD, drop, length-drop}
-use lib.Seq.{length-take-le}
+use lib.ListN.{length, getD}
 use Rattle.hierarchy.specs.Tables.{tables}
 use Rattle.boardfile.specs.Parts.{rowBytes}
+use Rattle.boardfile.proofs.Puts.{rest-long}
 use Rattle.boardfile.proofs.Writings.{EdgesPut, edges-put-start, edges-put-same, edges-put-few, edges-put-small, edges-put-room, edges-put-turn, edges-put-end}
 use Rattle.boardfile.proofs.writer.put_edges.Statement.{statement}
 use Rattle.boardfile.proofs.writer.put_edges.Tie as tie
@@ -52,7 +52,7 @@ put-row-requires : tie.Need-put-row-requires Inv-loop μ-loop
 put-row-requires c κs =
     let l = c .before .before .before .before .loop in
     let h = room (c .before .before .before) in
-    (c .before .before .before .loop-test .taken, omega (arith, length-take-le (length (l .out) - l .at) (drop (l .at) (l .out)) (omega (arith, length-drop (l .at) (l .out)))))
+    (c .before .before .before .loop-test .taken, omega (arith, rest-long (l .at) (l .out)))
 
 loop-again : tie.Need-loop-again Inv-loop μ-loop
 loop-again c =

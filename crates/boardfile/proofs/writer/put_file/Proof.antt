@@ -1,6 +1,6 @@
 use Rattle.hierarchy.specs.Tables.{kind}
 use Rattle.boardfile.specs.Files.{kindAt}
-use Rattle.boardfile.proofs.Writings.{trailer-fits, file-put}
+use Rattle.boardfile.proofs.Writings.{tail-room, file-put}
 use borrow.Author.Needs.{needs}
 use Rattle.boardfile.proofs.writer.put_file.Statement.{statement}
 use Rattle.boardfile.proofs.writer.put_file.Tie as tie
@@ -33,21 +33,21 @@ put-edges-requires : tie.Need-put-edges-requires
 unfolding kindAt kind
 put-edges-requires c κs = search needs
 
-sub-put-trailer : tie.Need-sub-put-trailer
-sub-put-trailer c = search needs
+sub-put-tail : tie.Need-sub-put-tail
+sub-put-tail c = search needs
 
-part-put-trailer-start : tie.Need-part-put-trailer-start
-part-put-trailer-start c = search needs
+part-put-tail-start : tie.Need-part-put-tail-start
+part-put-tail-start c = search needs
 
-part-put-trailer-end : tie.Need-part-put-trailer-end
-part-put-trailer-end c = search needs
+part-put-tail-end : tie.Need-part-put-tail-end
+part-put-tail-end c = search needs
 
-put-trailer-requires : tie.Need-put-trailer-requires
+put-tail-requires : tie.Need-put-tail-requires
 unfolding kindAt kind
-put-trailer-requires c κs =
+put-tail-requires c κs =
     let e = c .before .before .before in
     let r = e .before .before .before .before in
-    trailer-fits (r .before .before .before .pre) (r .put-roles .last .1 .0) (e .put-edges .last .1 .1 .0) (r .put-roles .ensures) (e .put-edges .ensures)
+    tail-room (r .before .before .before .pre) (r .put-roles .last .1 .0) (e .put-edges .last .1 .1 .0) (r .put-roles .ensures) (e .put-edges .ensures)
 
 same-length : tie.Need-same-length
 same-length c = search needs
@@ -58,7 +58,7 @@ returns c =
     let w = c .before .before in
     let e = w .before .before .before .before in
     let r = e .before .before .before .before in
-    file-put (r .before .before .before .pre) (r .put-roles .last .1 .0) (e .put-edges .last .1 .1 .0) (r .put-roles .ensures) (e .put-edges .ensures) (w .put-trailer .last .1 .1 .0) (w .put-trailer .ensures)
+    file-put (r .before .before .before .pre) (r .put-roles .last .1 .0) (e .put-edges .last .1 .1 .0) (r .put-roles .ensures) (e .put-edges .ensures) (w .put-tail .last .1 .1 .1 .1 .1 .0) (w .put-tail .ensures)
 
 pub put-file-spec : {M : Type 1} → statement M
 put-file-spec =
@@ -73,9 +73,9 @@ put-file-spec =
     part-put-edges-start
     part-put-edges-end
     put-edges-requires
-    sub-put-trailer
-    part-put-trailer-start
-    part-put-trailer-end
-    put-trailer-requires
+    sub-put-tail
+    part-put-tail-start
+    part-put-tail-end
+    put-tail-requires
     same-length
     returns)

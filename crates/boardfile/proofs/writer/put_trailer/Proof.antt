@@ -1,7 +1,7 @@
 use Rattle.boardfile.proofs.Puts.{put-six}
 use native.Mathlib.Omega.{arith}
 use lib.ListN.{length-set}
-use Rattle.boardfile.specs.Files.{trailer}
+use Rattle.boardfile.specs.Parts.{lastSix}
 use borrow.Author.Needs.{needs}
 use Rattle.boardfile.proofs.writer.put_trailer.Statement.{statement}
 use Rattle.boardfile.proofs.writer.put_trailer.Tie as tie
@@ -46,7 +46,7 @@ same-length : tie.Need-same-length
 same-length c = search needs
 
 returns : tie.Need-returns
-unfolding trailer
+unfolding lastSix
 returns c = put-six (c .args .out .now) _ _ _ _ _ _ (c .pre .2)
 
 pub put-trailer-spec : {M : Type 1} → statement M

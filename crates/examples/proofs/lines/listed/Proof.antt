@@ -1,13 +1,13 @@
 use borrow.Author.Needs.{needs}
 use Prim.Native.Nat.{_-_}
-use Rattle.examples.proofs.lines.roles.Statement.{statement}
-use Rattle.examples.proofs.lines.roles.Tie as tie
+use Rattle.examples.proofs.lines.listed.Statement.{statement}
+use Rattle.examples.proofs.lines.listed.Tie as tie
 
 abbrev Inv-loop : tie.InvT-loop
-Inv-loop s r₀ t4 r = Unit
+Inv-loop s from r₀ t5 r = Unit
 
 abbrev μ-loop : tie.MeasureT-loop
-μ-loop s r₀ t4 r = 64 - r
+μ-loop s from r₀ t5 r = 64 - r
 
 slice-aggregate-text : tie.Need-slice-aggregate-text Inv-loop μ-loop
 slice-aggregate-text c = search needs
@@ -30,6 +30,9 @@ slice-aggregate-text-2 c = search needs
 text-requires-2 : tie.Need-text-requires-2 Inv-loop μ-loop
 text-requires-2 c κs = search needs
 
+add-number : tie.Need-add-number Inv-loop μ-loop
+add-number c = search needs
+
 number-requires : tie.Need-number-requires Inv-loop μ-loop
 number-requires c κs = search needs
 
@@ -45,8 +48,8 @@ loop-again c = search needs
 returns : tie.Need-returns Inv-loop μ-loop
 returns c = search needs
 
-pub roles-spec : {M : Type 1} → statement M
-roles-spec =
+pub listed-spec : {M : Type 1} → statement M
+listed-spec =
     tie.close
     (tie.spec
     Inv-loop
@@ -58,6 +61,7 @@ roles-spec =
     has-requires
     slice-aggregate-text-2
     text-requires-2
+    add-number
     number-requires
     add-r
     loop-less
