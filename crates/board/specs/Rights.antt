@@ -50,5 +50,6 @@ holds c old x k =
     (cond (eqb (c .code) 7) (old && not (eqb x (c .role) && bit (c .rights) k))
     old)))
 
+-- the whole row afterwards
 unfoldable pub rightsAfter : Command → List ℕ → List ℕ
 rightsAfter c rights = listOf 64 (λ x. setOf (λ k. holds c (bit (rightsOf rights x) k) x k))

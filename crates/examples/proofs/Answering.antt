@@ -1,4 +1,5 @@
--- The computed number of a command is the number that document 01's table of refusals gives it, and its 6 names whom the test says.
+-- On a sound board the computed number of a command is the one that document 01's table of refusals gives it, and its 6 names whom the
+-- test says.
 -- Assumes nothing.
 use mathlib.Core.Path.{_≡_, refl, sym, subst, subst₂}
 use mathlib.Core.Logic.{inl, inr, ⊎-elim, _↔_, Iff·trans, _≢_}

@@ -111,7 +111,7 @@ start-bytes = record { rows = refl; fits = fits }
     fits (suc zero) = lit< tt
     fits (suc (suc x)) = subst (λ (n : ℕ). n < 256) (sym (one-entry 62 x 0)) (lit< tt)
 
--- what a stage is in, where it is well formed
+-- what is known of a stage that has its shape: what was computed is what it stands for
 pub record Reached (s : Stage) : Type 0 where
   pub shaped : Shaped (tablesAt s)
   pub bytes : AreBytes (rightsAt s)

@@ -22,6 +22,7 @@ use Rattle.board.specs.Rights.{rightsOf, RightsFit}
 use Rattle.board.proofs.Using.{all-fit}
 use Rattle.examples.specs.Answer.{joins?, joinedRows?, liveLoops?, rightful?, inOrder?}
 
+-- a test says itself
 pub is : (p : Bool) → (p ≡ true) ↔ (p ≡ true)
 is p = Iff·rfl
 

@@ -1,5 +1,6 @@
--- The number of a command, computed: each row of document 01's table of refusals as a test that can be run, on any tables and rights; and
--- a test of whom a 6 names. `Rattle.examples.proofs.Answering` says that these are what the definitions give.
+-- The number of a command on a sound board, computed: each row of document 01's table of refusals past the first as a test that can be run
+-- on tables and rights; a test of a sound board; and one of whom a 6 names. `Rattle.examples.proofs.Answering` and `Ordering` say that
+-- these are what the definitions give.
 use mathlib.Core.Bool.{Bool, false, cond, not, _&&_, _||_}
 use mathlib.Core.List.{List, [], _∷_, _++_}
 use Prim.Native.Nat.{ℕ, _^_}
@@ -37,7 +38,7 @@ left t c = cond (namesRights c) t (record {
 unfoldable pub rightsLeft : Command → List ℕ → List ℕ
 rightsLeft c rights = set rights (c .role) (setOf (λ k. holds c (bit (rightsOf rights (c .role)) k) (c .role) k))
 
--- ---- a sound board, in fewer steps than the words take: rows and not entries are looked at, and only live roles for loops
+-- ---- a sound board, in fewer steps than by `sound?`: rows are looked at and not entries, and for loops only live roles
 
 -- whether nobody is in the row s of x, or x and all of them live
 unfoldable pub joins? : (live x s : ℕ) → Bool
@@ -53,11 +54,11 @@ liveLoops? t = any 64 (λ x. bit (t .live) x && reaches? t x x)
 unfoldable pub rightful? : ℕ → List ℕ → Bool
 rightful? live rights = eqb (length rights) 64 && all 64 (λ x. leb (rightsOf rights x) 31 && (bit live x || eqb (rightsOf rights x) 0))
 
--- of tables in their shape
+-- all of it, for tables in their shape
 unfoldable pub inOrder? : Tables → List ℕ → Bool
 inOrder? t rights = joinedRows? t && (not (liveLoops? t) && (bit (t .live) 0 && (managed? t && rightful? (t .live) rights)))
 
--- ---- a test for each row of a sound board's command
+-- ---- a test for each row
 
 unfoldable pub malformed? : Command → Bool
 malformed? c =
@@ -84,7 +85,7 @@ standing? t c = (eqb (c .code) 1 && bit (t .live) (c .role)) || (eqb (c .code) 3
 unfoldable pub lacking? : Tables → Command → Bool
 lacking? t c = (eqb (c .code) 4 && not (partsStand? t c)) || (eqb (c .code) 5 && not (linked? t c))
 
--- whether the actor a may use right k; what it holds itself is looked at first, and who holds it before who derives whom
+-- whether a may use right k; that it holds it itself is looked at first, being the least work
 unfoldable pub mayUse? : Tables → List ℕ → (a k : ℕ) → Bool
 mayUse? t rights a k = bit (rightsOf rights a) k || any 64 (λ x. bit (rightsOf rights x) k && derives? t a x)
 
@@ -124,7 +125,7 @@ afterwards? t c =
     ∷ (9, not (managed? t))
     ∷ []
 
--- where 6 and 7 leave sound tables there is nothing to try
+-- 6 and 7 leave the tables, which are sound: nothing to try afterwards
 unfoldable pub answer? : Tables → List ℕ → Command → ℕ
 answer? t rights c = first? (before? t rights c ++ cond (namesRights c) [] (afterwards? (left t c) c))
 

@@ -88,7 +88,7 @@ Hold t held (f ∷ fs) = Holds t held f × Hold t held fs
 
 -- ---- the tests
 
--- the tables and the rights of a stage, computed; and whether the tables that it begins with have their shape, and its commands
+-- the tables and the rights of a stage, computed; and whether the tables that it begins with, and its commands, have their shape
 unfoldable pub reached : Stage → Tables
 reached (on t) = t
 reached (s then c) = left (reached s) c
@@ -182,13 +182,14 @@ table =
           ∷ blames (addBetween 0 4 0b1000 0 0b0001 0) 3 1 0
           ∷ blames (addBetween 0 4 0 0 0b1000 0b0001) 3 1 0
           ∷ blames (addBetween 0 4 0 0 0b0001 0b1000) 0 3 0
-          -- request 4: to hand on rights, one who has none may hand on none of them; where a right is missing and the role is out of scope, 13 goes first
+          -- request 4: role 2 has no right to use or to hand on, and 13 goes before 6; the byte 0 anyone may hand on, within its scope
           ∷ gives (giveRights 1 2 0b00110) 0
           ∷ gives (giveRights 2 2 0b00001) 13
           ∷ gives (giveRights 2 3 0b00001) 13
           ∷ gives (removeRole 2 3) 13
           ∷ gives (giveRights 2 2 0) 0
           ∷ blames (giveRights 2 3 0) 3 1 0
+          -- out of scope alone
           ∷ blames (giveRights 0 3 0b00001) 3 1 0
           ∷ blames (takeRights 0 3 0b00001) 3 1 0
           -- a byte above 31, and a code above 7
@@ -196,7 +197,7 @@ table =
           ∷ gives (giveRights 1 2 32) 2
           ∷ gives (takeRights 1 2 32) 2
           ∷ gives (command 8 0 1 0 0 31) 2
-          -- what the stages below begin with
+          -- what stages below begin with
           ∷ gives (takeRights 0 1 0b10000) 0
           ∷ gives (giveRights 1 3 0b00001) 0
           ∷ gives (giveRights 1 2 0b00100) 0
