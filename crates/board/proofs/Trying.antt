@@ -279,10 +279,10 @@ module _ {b : Board} {c : Command} {t : Tables} (is : t ≡ after (tablesOf b) c
 
 -- the rows afterwards, by the code
 pub late-low : (t : Tables) (c : Command) → c .code ≤ 5 → lateOf t c ≡ late t c
-late-low t c l = rw (le-leb (c .code) 5 l)
+late-low t c l = rw (lt-leb 6 (c .code) (omega (arith, l)))
 
 pub late-high : (t : Tables) (c : Command) → 5 < c .code → lateOf t c ≡ []
-late-high t c h = rw (lt-leb (c .code) 5 h)
+late-high t c h = rw (le-leb 6 (c .code) h)
 
 module _ (Derive In : ℕ → ℕ → Type 0) (Blame : Answer → Type 0) (b : Board) (c : Command) where
   abbrev early : List (ℕ × Type 0)

@@ -203,9 +203,6 @@ module _ (c : Command) (rights : List ℕ) where
       let f = subst (λ (n : ℕ). k isIn n) (rights-at x l) e in
       (l, sym (bit-setOf _ k (bit-lt 64 (setOf-fits _) f)) ∙ f)
 
-le-pred : {n : ℕ} → n < 32 → n ≤ 31
-le-pred h = omega (arith, h)
-
 -- a set of members below n is below 2 ^ n
 small : (n s : ℕ) → ((k : ℕ) → k isIn s → k < n) → s < 2 ^ n
 small n s h = subst (λ (t : ℕ). t < 2 ^ n) (sym (same-bits s (digits n (bit s)) here)) (digits-fit n (bit s))
@@ -241,10 +238,10 @@ pub rights-fit : (t : Tables) (rights : List ℕ) (c : Command) → RightsFit (t
 unfolding after needed
 rights-fit t rights c fit formed present = record {
   rows = rights-length c rights;
-  five = λ x. le-pred (small 5 _ (λ k e. ⊎-elim
+  five = λ x. let l = small 5 _ (λ k e. ⊎-elim
       (λ o. few (rightsOf rights x) k (fit .five x) o)
       (λ w. few (c .rights) k (let l = rights-lt c formed (omega (arith, w .0)) in omega (arith, l)) (w .2))
-      (holds-from c _ x k (rights-bit c rights x k e .1))));
+      (holds-from c _ x k (rights-bit c rights x k e .1))) in omega (arith, l);
   living = λ x d. empty _ (λ k e.
       let w = rights-bit c rights x k e in
       let dead : lives c (bit (t .live) x) x ≡ false = sym (bit-setOf _ x (w .0)) ∙ d in

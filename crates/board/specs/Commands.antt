@@ -12,7 +12,7 @@ use Rattle.hierarchy.specs.Words.{Derives, Scope, OutOfScope, Administrator, Lo
 use Rattle.hierarchy.specs.First.{First}
 use Rattle.board.specs.Boards.{tablesOf, SoundBoard}
 use Rattle.board.specs.Effects.{after}
-use Rattle.board.specs.Rights.{Entitled, rightsAfter}
+use Rattle.board.specs.Rights.{namesRights, Entitled, rightsAfter}
 use Rattle.board.specs.declared.Board.{Board}
 use Rattle.board.specs.declared.Command.{Command}
 use Rattle.board.specs.declared.commands.Answer.{Answer}
@@ -22,10 +22,6 @@ use Rattle.board.specs.declared.commands.Answer.{Answer}
 -- commands 3, 4 and 5 name a senior (in `role`), a junior and a kind
 abbrev pub namesEdge : Command → Bool
 namesEdge c = leb 3 (c .code) && leb (c .code) 5
-
--- commands 6 and 7 name a role and rights
-abbrev pub namesRights : Command → Bool
-namesRights c = leb 6 (c .code)
 
 -- no set that it names has a member above 63: its type says so of each command of the code
 pub record Fits (c : Command) : Type 0 where

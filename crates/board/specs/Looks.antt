@@ -5,13 +5,14 @@ use mathlib.Core.Bool.{Bool, false, cond}
 use mathlib.Core.Logic.{_⊎_, _≢_}
 use mathlib.Core.List.{List, [], _∷_, _++_}
 use Prim.Native.Nat.{ℕ, _≤_, _<_}
-use lib.Dec.{leb, ltb}
+use lib.Dec.{ltb}
 use Rattle.sets.specs.Sets.{_isIn_}
 use Rattle.hierarchy.specs.Tables.{Tables, row}
 use Rattle.hierarchy.specs.First.{First}
 use Rattle.hierarchy.specs.Views.{InOrder, Inward, LiveLoops, ScopeBy, OutOfScopeBy, AdminBy, RightValues, managerAt, stepsUp}
 use Rattle.board.specs.Boards.{tablesOf, KeepsRight}
 use Rattle.board.specs.Effects.{after}
+use Rattle.board.specs.Rights.{namesRights}
 use Rattle.board.specs.Commands.{before, pastLoops, Blames, DecidedBy}
 use Rattle.board.specs.Questions.{misnamed, Says, Tells, Answered}
 use Rattle.board.specs.declared.Board.{Board}
@@ -61,7 +62,7 @@ pub record Remade (b : Board) (c : Command) (number : ℕ) (board : Board) : Typ
 
 -- The rows afterwards are tried where a command may change the tables: 6 and 7 don't, and leave what the board keeps as it is.
 abbrev pub lateOf : Tables → Command → List (ℕ × Type 0)
-lateOf t c = cond (leb (c .code) 5) (late t c) []
+lateOf t c = cond (namesRights c) [] (late t c)
 
 pub record KeptOff (b : Board) (c : Command) (board : Board) : Type 0 where
   pub worked-out : c .code ≤ 5 → KeepsRight board

@@ -30,9 +30,13 @@ pub data MayUse (Derive : ℕ → ℕ → Type 0) (rights : List ℕ) (a k : ℕ
   own : k isIn rightsOf rights a → MayUse Derive rights a k
   derived : {x : ℕ} → Derive a x → k isIn rightsOf rights x → MayUse Derive rights a k
 
+-- commands 6 and 7 name a role and rights
+abbrev pub namesRights : Command → Bool
+namesRights c = leb 6 (c .code)
+
 -- the rights that a command asks for: commands 1 to 5 the one of their number, 6 and 7 those that they name
 unfoldable pub asks : Command → ℕ → Bool
-asks c k = cond (leb 6 (c .code)) (bit (c .rights) k) (eqb (c .code) (suc k))
+asks c k = cond (namesRights c) (bit (c .rights) k) (eqb (c .code) (suc k))
 
 -- row 13 is that the actor may not use one of them
 abbrev pub Entitled : (ℕ → ℕ → Type 0) → List ℕ → Command → Type 0

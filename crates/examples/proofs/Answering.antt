@@ -20,8 +20,8 @@ use Rattle.hierarchy.proofs.Checks.{all-is, any-is, and-is, or-is, if-is, not-i
 use Rattle.hierarchy.proofs.Decide.{derives-is, scope-is, out-of-scope-is, admin-is, managed-is}
 use Rattle.hierarchy.proofs.Order.{joined-loops}
 use Rattle.board.specs.Effects.{after}
-use Rattle.board.specs.Rights.{rightsOf, MayUse, MayUse.own, MayUse.derived, asks, Entitled}
-use Rattle.board.specs.Commands.{namesEdge, namesRights, Fits, Malformed, Missing, PartsStand, Standing, Lacking, InScope, Outside, asSenior, asJunior, needed, scoped, strictly, conditions, Breaks, Offends, Because, Blames, afterwards, onTables}
+use Rattle.board.specs.Rights.{namesRights, rightsOf, MayUse, MayUse.own, MayUse.derived, asks, Entitled}
+use Rattle.board.specs.Commands.{namesEdge, Fits, Malformed, Missing, PartsStand, Standing, Lacking, InScope, Outside, asSenior, asJunior, needed, scoped, strictly, conditions, Breaks, Offends, Because, Blames, afterwards, onTables}
 use Rattle.board.specs.Commands.{Malformed.no-code, Malformed.no-actor, Malformed.no-role, Malformed.no-junior, Malformed.no-kind, Malformed.no-rights, Offends.here, Offends.later, Because.out, Because.itself}
 use Rattle.board.proofs.Offenders.{Small, all-small}
 use Rattle.board.proofs.Edits.{tables-stay}

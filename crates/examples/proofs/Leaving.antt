@@ -13,9 +13,9 @@ use Rattle.sets.proofs.Laws.{is-setOf}
 use Rattle.hierarchy.specs.Tables.{Tables, row, Shaped, hasI, hasA}
 use Rattle.hierarchy.proofs.Rows.{row-set}
 use Rattle.board.specs.Effects.{lives, entry, listOf, tableAfter, after}
-use Rattle.board.specs.Rights.{rightsAfter}
+use Rattle.board.specs.Rights.{namesRights, rightsAfter}
 use Rattle.board.specs.Rows.{AreBytes}
-use Rattle.board.specs.Commands.{namesRights, Malformed}
+use Rattle.board.specs.Commands.{Malformed}
 use Rattle.board.specs.declared.Command.{Command}
 use Rattle.board.proofs.Edits.{tables-stay}
 use Rattle.board.proofs.Trying.{role-lt}

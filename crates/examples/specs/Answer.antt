@@ -11,8 +11,8 @@ use Rattle.sets.specs.Sets.{bit, setOf}
 use Rattle.hierarchy.specs.Tables.{Tables, row, hasI, hasA}
 use Rattle.hierarchy.specs.Compute.{all, any, derives?, scope?, outOfScope?, admin?, reaches?, managed?}
 use Rattle.board.specs.Effects.{lives, entry, listOf}
-use Rattle.board.specs.Rights.{rightsOf, asks, holds}
-use Rattle.board.specs.Commands.{namesEdge, namesRights, needed, scoped, strictly, conditions}
+use Rattle.board.specs.Rights.{rightsOf, namesRights, asks, holds}
+use Rattle.board.specs.Commands.{namesEdge, needed, scoped, strictly, conditions}
 use Rattle.board.specs.declared.Command.{Command}
 
 -- ---- tables and rights afterwards
