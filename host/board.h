@@ -139,7 +139,16 @@ struct command {
  * Place and value are 0; a 6 has the offending role, its cause and the role in the way. */
 uint64_t board_apply(struct board *b, const struct command *c);
 
-/* The same on the board in a file. Done puts the new file at the start of `out` (BOARD_FILE bytes are always enough),
+/* A run of `n` commands on a board, one after the other, as so many calls of board_apply would have it: each is decided on
+ * the board that the one before it left, and a refused one doesn't end the run. What command k was answered, whole as
+ * board_apply answers it, is in answers[k] afterwards; the places from `n` on stay.
+ *
+ * The run's own number is 0, whatever its commands were answered; or 12, with BOARD_PLACE_WRITING, where `m`, the places
+ * of `answers`, is below `n`: then no command was tried, and board and answers are as they were. The value is 0. A run of
+ * no commands is done. */
+uint64_t board_run(struct board *b, const struct command *commands, size_t n, uint64_t *answers, size_t m);
+
+/* One command on the board in a file. Done puts the new file at the start of `out` (BOARD_FILE bytes are always enough),
  * and its length is the value; the rest of `out` stays. A refusal leaves all of `out` as it was; a 6 has the same. */
 uint64_t board_command(const uint8_t *file, size_t file_len, const struct command *c, uint8_t *out, size_t out_len);
 

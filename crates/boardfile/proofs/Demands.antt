@@ -3,12 +3,12 @@
 use mathlib.Core.Path.{_≡_, refl, sym, ap, _∙_, subst, subst₂}
 use mathlib.Core.Bool.{Bool}
 use mathlib.Core.Logic.{_⊎_, inl, inr, ⊎-elim, ⊎-map, _≢_, _↔_, dite}
-use mathlib.Core.List.{List, [], _∷_}
+use mathlib.Core.List.{List, [], _∷_, _++_}
 use Prim.Native.Nat.{ℕ, _+_, _≤_, _<_}
 use native.Mathlib.Decide.{ℕ-discrete}
 use native.Mathlib.Omega.{arith}
 use lib.Count.{ones}
-use lib.ListN.{take, drop}
+use lib.ListN.{length, take, drop, replicate}
 use Rattle.sets.specs.Sets.{_isIn_}
 use Rattle.hierarchy.specs.Tables.{Tables, row, Live}
 use Rattle.hierarchy.specs.Words.{Derives, Scope, OutOfScope, LineManager, Sound, Climb}
@@ -42,6 +42,8 @@ use Rattle.board.proofs.Trying.{role-lt, junior-lt}
 use Rattle.board.proofs.Rules.{stable, Passed, first-done, first-without, first-next}
 use Rattle.board.proofs.Settled.{board-stable, one-board, decided-unique, derives-unique, scope-unique, manager-answer-unique, steps-unique}
 use Rattle.board.proofs.Viewing.{derives-kept, derivers-kept, manager-kept, scope-kept, steps-kept}
+use Rattle.runs.specs.Runs.{Ran, Ran.over, Ran.given, runRefusals, Went, RunAnswer, InParts, InItsPlace}
+use Rattle.runs.proofs.Running.{run-unique, ran-one, ran-join, ran-parts, beyond-stays, in-its-place, without-refused, unsound-run}
 use Rattle.boardfile.specs.declared.commands.Place.{Place}
 use Rattle.boardfile.specs.Files.{fileOf}
 use Rattle.boardfile.specs.Faults.{EndsHH, EndsHR}
@@ -73,6 +75,31 @@ pub command-ends : {b board : Board} {c : Command} {answer : Answer} → Decided
 command-ends {b} {board} {c} {answer} d = dite (ℕ-discrete (answer .number) 0)
     (λ e. inl (e, d .done e))
     (λ n. inr (refused-among (commandRefusals b c) (answer .number) (d .numbered) n, d .refused n))
+
+-- a run (request 6): with 12, and board and row are as they were; or each of its commands was given,
+pub run-ends : {b board : Board} {commands : List Command} {entry exit : List ℕ} {number : ℕ} → RunAnswer b commands entry exit number board
+    → ((number ≡ 0) × Went b commands entry exit board) ⊎ ((number ≡ 12) × (board ≡ b) × (exit ≡ entry))
+run-ends {commands = commands} {entry} {number = number} r = dite (ℕ-discrete number 0)
+    (λ e. inl (e, r .done e))
+    (λ n. inr (⊎-elim (λ e. e) absurd (refused-among (runRefusals (length commands) (length entry)) number (r .numbered) n), r .refused n .0, r .refused n .1))
+
+-- and ended as by itself. The row is the one thing lent that a refused command writes to, there only to its own place (`in-its-place`): left out, all else
+-- is the same. The places beyond the run stay.
+module _ {b board : Board} (first : List Command) {c : Command} {rest : List Command} {entry exit : List ℕ} (w : Went b (first ++ c ∷ rest) entry exit board) where
+  pub run-command-ends : (p : InItsPlace b first c rest exit board)
+      × (((p .answer .number ≡ 0) × Made SoundBoard (p .before) c (p .after))
+      ⊎ (Among (p .answer .number) (commandRefusals (p .before) c) × (p .after ≡ p .before) × Ran b (first ++ rest) (p .early ++ p .late) board))
+  run-command-ends =
+      let p = in-its-place first w in
+      let number = p .answer .number in (
+        p,
+        dite (ℕ-discrete number 0)
+            (λ e. inl (e, p .decided .done e))
+            (λ n. inr (refused-among (commandRefusals (p .before) c) number (p .decided .numbered) n, p .decided .refused n, without-refused p n)),
+      )
+
+pub run-beyond : {b board : Board} {commands : List Command} {entry exit : List ℕ} → Went b commands entry exit board → drop (length commands) exit ≡ drop (length commands) entry
+run-beyond = beyond-stays
 
 -- a file: with the board it is the file of, or with one of 10, 11, 7, 9 and the founding board
 pub file-ends : {f : List ℕ} {board : Board} {number : ℕ} → ReadAnswer f number board
@@ -117,6 +144,23 @@ file-command-ends {entry = entry} {exit = exit} {len = len} (done {b = b} r d w)
 
 pub one-outcome : {b x y : Board} {c : Command} {m n : Answer} → Decided b c m x → Decided b c n y → (m ≡ n) × (x ≡ y)
 one-outcome = decided-unique
+
+-- a run has one outcome: its number, every place of the row, and the board. It is what its commands give one by one:
+pub one-run : {b x y : Board} {commands : List Command} {entry exit other : List ℕ} {m n : ℕ} → RunAnswer b commands entry exit m x → RunAnswer b commands entry other n y
+    → (m ≡ n) × (exit ≡ other) × (x ≡ y)
+one-run = run-unique
+
+-- the run of one command is the command, and a run, cut anywhere, is the run of its first part and from there the run of the other
+pub run-of-one : {b last : Board} {c : Command} {a : Answer} → Ran b (c ∷ []) (a ∷ []) last ↔ Decided b c a last
+run-of-one = ran-one
+
+pub run-in-parts : {b last : Board} (first : List Command) {rest : List Command} {answers : List Answer} → Ran b (first ++ rest) answers last ↔ InParts b first rest answers last
+run-in-parts {b} {last} first {rest} = (ran-parts first, λ p. subst (λ (l : List Answer). Ran b (first ++ rest) l last) (sym (p .in-a-row)) (ran-join (p .begun) (p .ended)))
+
+-- on a board that isn't sound every answer is 1, and the board stays
+pub run-on-unsound : {b last : Board} {commands : List Command} {answers : List Answer} → (SoundBoard b → ⊥) → Ran b commands answers last
+    → (answers ≡ replicate (length commands) (plain 1)) × (last ≡ b)
+run-on-unsound = unsound-run
 
 -- a board that keeps a wrong value, or rights that it may not have, gives 1: from a command, from a question, and from the writer
 module _ {b : Board} (wrong : KeepsRight b × RightsFit (b .live) (b .rights) → ⊥) where
@@ -314,6 +358,14 @@ pub reached-sound : {b : Board} → Reached b → SoundBoard b
 reached-sound founding = founding-sound
 reached-sound (file r) = r .done refl .1
 reached-sound (command r d) = command-keeps d (reached-sound r)
+
+-- a run on a board reached leaves one reached, whatever its number and its commands' answers
+ran-reached : {b last : Board} {commands : List Command} {answers : List Answer} → Reached b → Ran b commands answers last → Reached last
+ran-reached r over = r
+ran-reached r (given d rest) = ran-reached (command r d) rest
+
+pub run-reached : {b board : Board} {commands : List Command} {entry exit : List ℕ} {number : ℕ} → Reached b → RunAnswer b commands entry exit number board → Reached board
+run-reached {number = number} r a = dite (ℕ-discrete number 0) (λ e. ran-reached r (a .done e .ran)) (λ n. subst Reached (sym (a .refused n .0)) r)
 
 module _ {b : Board} (reached : Reached b) where
   pub exactly-one-manager : (r : ℕ) → Live (tablesOf b) r → r ≢ 0 → (m : ℕ) × LineManager (tablesOf b) m r × ((n : ℕ) → LineManager (tablesOf b) n r → n ≡ m)

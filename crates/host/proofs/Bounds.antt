@@ -15,7 +15,8 @@ use Rattle.board.specs.declared.Board.{Board}
 use Rattle.board.proofs.Rules.{first-done}
 use Rattle.boardfile.specs.Answers.{ScopeOnFile, StepsOnFile, writeRefusals, WriteAnswer}
 use Rattle.boardfile.proofs.Theorems.{sound-length}
-use Rattle.host.specs.Answers.{answer, placeOf}
+use Rattle.runs.specs.Packing.{answer}
+use Rattle.host.specs.Answers.{placeOf}
 
 -- a scope has at most 64 roles: they are live
 pub count-small : {f : List ℕ} (a r : ℕ) {n count cause way : ℕ} {said : Bool} → ScopeOnFile f a r n said count cause way → count ≤ 64

@@ -12,7 +12,9 @@ use Rattle.board.specs.declared.commands.Answer.{Answer}
 use Rattle.board.proofs.Settled.{decided-unique}
 use Rattle.boardfile.specs.declared.commands.Place.{Place}
 use Rattle.boardfile.proofs.Settled as F
-use Rattle.host.specs.Answers.{answer, reason, answerOf, placeNumber, placeOf, placeOfWriting, Checked, DerivesPacked, ScopePacked, managerOr64, ManagerPacked, StepsPacked, StretchPacked, Commanded, Applied, ReadPacked, WritePacked}
+use Rattle.runs.specs.Packing.{answer, reason, answerOf}
+use Rattle.runs.proofs.Running as R
+use Rattle.host.specs.Answers.{placeNumber, placeOf, placeOfWriting, Checked, DerivesPacked, ScopePacked, managerOr64, ManagerPacked, StepsPacked, StretchPacked, Commanded, Applied, RunPacked, ReadPacked, WritePacked}
 
 -- the same number and the same value make the same answer to a question
 asked : {m n v w r s : ℕ} → m ≡ n → v ≡ w → r ≡ answer m (placeOf m) v → s ≡ answer n (placeOf n) w → r ≡ s
@@ -50,6 +52,11 @@ commanded-unique p q =
 -- the answer, and the caller's board
 pub apply-unique : {entry exit other : Board} {c : Command} {r s : ℕ} → Applied entry c exit r → Applied entry c other s → (exit ≡ other) × (r ≡ s)
 apply-unique p q = let k = decided-unique (p .1) (q .1) in (k .1, p .2 ∙ ap (λ (a : Answer). answerOf a 0 0) (k .0) ∙ sym (q .2))
+
+-- the answer, the caller's row and the board
+pub run-unique : {entry exit other : Board} {commands : List Command} {row x y : List ℕ} {r s : ℕ} → RunPacked entry commands row x exit r → RunPacked entry commands row y other s
+    → (x ≡ y) × (exit ≡ other) × (r ≡ s)
+run-unique p q = let k = R.run-unique (p .1) (q .1) in (k .1, k .2, p .2 ∙ ap (λ (n : ℕ). answer n (placeOfWriting n) 0) (k .0) ∙ sym (q .2))
 
 pub read-unique : {f : List ℕ} {entry exit other : Board} {r s : ℕ} → ReadPacked f entry exit r → ReadPacked f entry other s → (exit ≡ other) × (r ≡ s)
 read-unique {f} p q =

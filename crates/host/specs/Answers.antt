@@ -13,20 +13,11 @@ use Rattle.board.specs.declared.Command.{Command}
 use Rattle.board.specs.declared.commands.Answer.{Answer}
 use Rattle.board.specs.declared.questions.Manager.{Manager}
 use Rattle.board.specs.declared.questions.Manager.the-variants.{Role, Nobody}
+use Rattle.runs.specs.Packing.{answer, reason, answerOf}
+use Rattle.runs.specs.Runs.{RunAnswer}
 use Rattle.boardfile.specs.declared.commands.Place.{Place}
 use Rattle.boardfile.specs.declared.commands.Place.the-variants.{Asked, File, Writing}
 use Rattle.boardfile.specs.Answers.{refusals, ReadInto, DerivesOnFile, ScopeOnFile, ManagerOnFile, StepsOnFile, BoundsAnswer, WriteAnswer, CommandAnswer}
-
--- The number in bits 0 to 7, the place in bits 8 to 15, the value from bit 16 on.
-abbrev pub answer : ℕ → ℕ → ℕ → ℕ
-answer number place value = number + 256 * place + 65536 * value
-
--- To this comes, of a command and of a scope: who offends in bits 32 to 39, the cause in bits 40 to 47, the role in the way in bits 48 to 55.
-abbrev pub reason : ℕ → ℕ → ℕ → ℕ
-reason who cause way = 4294967296 * who + 1099511627776 * cause + 281474976710656 * way
-
-abbrev pub answerOf : Answer → ℕ → ℕ → ℕ
-answerOf a place value = answer (a .number) place value + reason (a .who) (a .cause) (a .way)
 
 -- The places: 0 is the command or the question, and every answer that is done; 1 the file handed in; 2 the writing.
 abbrev pub placeNumber : Place → ℕ
@@ -84,6 +75,10 @@ Commanded f c entry exit r =
 
 abbrev pub Applied : Board → Command → Board → ℕ → Type 0
 Applied entry c exit r = (a : Answer) × Decided entry c a exit × (r ≡ answerOf a 0 0)
+
+-- a run on it, with a row that holds `row` before the call and `answered` after it; 12 is the writing's
+abbrev pub RunPacked : Board → List Command → List ℕ → List ℕ → Board → ℕ → Type 0
+RunPacked entry commands row answered exit r = (number : ℕ) × RunAnswer entry commands row answered number exit × (r ≡ answer number (placeOfWriting number) 0)
 
 abbrev pub ReadPacked : List ℕ → Board → Board → ℕ → Type 0
 ReadPacked f entry exit r = (number : ℕ) × ReadInto f entry exit number × (r ≡ answer number (placeOf number) 0)

@@ -1,11 +1,12 @@
-// An answer in one number: the refusal number, where it arose, and a value, and above them who offends and why.
+// The parts of an answer as numbers: where it arose, and its value.
 ghost use mathlib.Core.Path.{_≡_};
 ghost use Prim.Native.Nat.{_+_, _*_, _≤_};
 ghost use Rattle.sets.specs.Sets.{num};
-ghost use Rattle.host.specs.Answers.{answer, reason, answerOf, placeOf, placeOfWriting, placeNumber, managerOr64};
-use board::commands::Answer;
+ghost use Rattle.runs.specs.Packing.{answer};
+ghost use Rattle.host.specs.Answers.{placeOf, placeOfWriting, placeNumber, managerOr64};
 use board::questions::Manager;
 use boardfile::commands::Place;
+use runs::packing::packed;
 
 // Where an answer arose: the command or the question, the file, the writing.
 const ASKED: u8 = 0;
@@ -16,34 +17,6 @@ const WRITING: u8 = 2;
 
 // what stands for no line manager
 const NONE: u16 = 64;
-
-// The three parts of an answer in one number.
-pub(crate) fn packed(number: u8, place: u8, value: u16) -> u64
-    ensures { λ r. ⌜ r ≡ answer number place value ⌝ }
-{
-    number as u64 + 256 * (place as u64) + 65536 * (value as u64)
-}
-
-// Who offends, the cause and the role in the way, above these.
-pub(crate) fn reason(who: u8, cause: u8, way: u8) -> u64
-    ensures { λ r. ⌜ r ≡ reason who cause way ⌝ }
-{
-    4294967296 * (who as u64) + 1099511627776 * (cause as u64) + 281474976710656 * (way as u64)
-}
-
-// The answer to a command, with the place and the value.
-pub(crate) fn answered_at(a: Answer, place: u8, value: u16) -> u64
-    ensures { λ r. ⌜ r ≡ answerOf a place value ⌝ }
-{
-    packed(a.number, place, value) + reason(a.who, a.cause, a.way)
-}
-
-// The same on the caller's own board, where both are 0.
-pub(crate) fn answered(a: Answer) -> u64
-    ensures { λ r. ⌜ r ≡ answerOf a 0 0 ⌝ }
-{
-    answered_at(a, ASKED, 0)
-}
 
 // Where the number of a question about a file arose: its own refusals are 2 and 3, all others are the file's.
 pub(crate) fn place_of(number: u8) -> u8
@@ -66,6 +39,13 @@ pub(crate) fn place_of_writing(number: u8) -> u8
     ensures { λ r. ⌜ r ≡ placeOfWriting number ⌝ }
 {
     if number == 12 { WRITING } else { ASKED }
+}
+
+// The answer of a run, which has a number and no value.
+pub(crate) fn run_packed(number: u8) -> u64
+    ensures { λ r. ⌜ r ≡ answer number (placeOfWriting number) 0 ⌝ }
+{
+    packed(number, place_of_writing(number), 0)
 }
 
 pub(crate) fn place_number(place: Place) -> u8

@@ -6,16 +6,13 @@ mod answers;
 
 ghost use mathlib.Core.Path.{_≡_};
 ghost use Rattle.board.specs.Boards.{boardOf, foundingBoard};
-ghost use Rattle.host.specs.Answers.{Applied, Checked, DerivesPacked, ScopePacked, ManagerPacked, StepsPacked, StretchPacked, Commanded, ReadPacked, WritePacked};
-use answers::answered;
-use answers::answered_at;
+ghost use Rattle.host.specs.Answers.{Applied, RunPacked, Checked, DerivesPacked, ScopePacked, ManagerPacked, StepsPacked, StretchPacked, Commanded, ReadPacked, WritePacked};
 use answers::manager_value;
 use answers::one_if;
-use answers::packed;
 use answers::place_number;
 use answers::place_of;
 use answers::place_of_writing;
-use answers::reason;
+use answers::run_packed;
 use answers::scope_value;
 use board::Board;
 use board::Command;
@@ -29,6 +26,11 @@ use boardfile::questions::line_manager;
 use boardfile::questions::scope;
 use boardfile::questions::steps;
 use boardfile::stretches::bounds;
+use runs::packing::answered;
+use runs::packing::answered_at;
+use runs::packing::packed;
+use runs::packing::reason;
+use runs::run;
 
 // The founding board, over the caller's own.
 #[no_mangle]
@@ -79,6 +81,14 @@ pub extern "C" fn board_apply(b: &mut Board, c: &Command) -> u64
     ensures { λ r. ⌜ Applied (now (b .entry)) (now (c .entry)) (now (b .exit)) r ⌝ }
 {
     answered(apply_in_place(b, *c))
+}
+
+// A run of commands on the caller's own board, with their answers in the caller's row.
+#[no_mangle]
+pub extern "C" fn board_run(b: &mut Board, commands: &[Command], answers: &mut [u64]) -> u64
+    ensures { λ r. ⌜ RunPacked (now (b .entry)) (now (commands .entry)) (now (answers .entry)) (now (answers .exit)) (now (b .exit)) r ⌝ }
+{
+    run_packed(run(b, commands, answers))
 }
 
 // The file of the caller's board, into `out` from place `at` on; the value is its length.

@@ -49,11 +49,11 @@ use Rattle.board.proofs.lent.apply_in_place as apply
 use Rattle.board.proofs.lent.apply_in_place.Symbol as apply-def
 use Rattle.board.proofs.lent.apply_in_place.Symbol.{name as #apply}
 use Rattle.board.proofs.lent.apply_in_place.Met as apply-thm
-use Rattle.host.specs.Answers.{answerOf}
-use Rattle.host.proofs.answers.answered as answered
-use Rattle.host.proofs.answers.answered.Symbol as answered-def
-use Rattle.host.proofs.answers.answered.Symbol.{name as #answered}
-use Rattle.host.proofs.answers.answered.Met as answered-thm
+use Rattle.runs.specs.Packing.{answerOf}
+use Rattle.runs.proofs.packing.answered as answered
+use Rattle.runs.proofs.packing.answered.Symbol as answered-def
+use Rattle.runs.proofs.packing.answered.Symbol.{name as #answered}
+use Rattle.runs.proofs.packing.answered.Met as answered-thm
 use Rattle.host.proofs.board_apply.Key.{name as #board-apply}
 use Rattle.host.proofs.board_apply as board-apply
 use Rattle.host.proofs.board_apply.Statement as stated
@@ -154,7 +154,7 @@ board-apply-spec 𝓤 H 𝓜 𝓖 𝓡 =
     let clauses = board-apply.clauses 𝓤 H (𝓖 .A) (𝓜 .mem) (𝓡 .run) in
     let body = WpFn 𝓤 H (𝓣 .C) (𝓣 .Λ) code.function in
     let known = cited 𝓤 H (Apply 𝓤 H (𝓖 .A) (𝓜 .mem) (𝓡 .run)) 𝓜 𝓡 code.env #apply apply-def.routine code.calls-board·lent·apply-in-place (apply-thm.met 𝓤 H 𝓜 𝓖 𝓡) in
-    let known₁ = cited 𝓤 H (Answered 𝓤 H (𝓖 .A) (𝓜 .mem) (𝓡 .run)) 𝓜 𝓡 code.env #answered answered-def.routine code.calls-host·answers·answered (answered-thm.met 𝓤 H 𝓜 𝓖 𝓡) in
+    let known₁ = cited 𝓤 H (Answered 𝓤 H (𝓖 .A) (𝓜 .mem) (𝓡 .run)) 𝓜 𝓡 code.env #answered answered-def.routine code.calls-runs·packing·answered (answered-thm.met 𝓤 H 𝓜 𝓖 𝓡) in
     entered 𝓤 H (tripleOf 𝓤 H (𝓖 .A) board-apply.signature (board-apply.spec 𝓤 H (𝓖 .A) (𝓜 .mem) (𝓡 .run)))
     (𝓣 .C) (𝓣 .Λ) #board-apply code.function (code.unfolded 𝓤 H 𝓜 𝓡)
     (walk-meets 𝓤 H (𝓖 .A) board-apply.ended stayed W

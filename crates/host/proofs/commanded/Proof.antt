@@ -2,7 +2,7 @@ use mathlib.Core.Path.{ap, _∙_}
 use Prim.Native.Nat.{ℕ}
 use native.Mathlib.Omega.{arith}
 use Rattle.boardfile.proofs.Commanding.{command-short}
-use Rattle.host.specs.Answers.{answerOf}
+use Rattle.runs.specs.Packing.{answerOf}
 use borrow.Author.Needs.{needs}
 use Rattle.host.proofs.commanded.Statement.{statement}
 use Rattle.host.proofs.commanded.Tie as tie

@@ -1,7 +1,7 @@
 use mathlib.Core.Path.{ap, _∙_}
 use Prim.Native.Nat.{ℕ}
 use native.Mathlib.Omega.{arith}
-use Rattle.host.specs.Answers.{answer}
+use Rattle.runs.specs.Packing.{answer}
 use Rattle.host.proofs.Bounds.{write-small}
 use borrow.Author.Needs.{needs}
 use Rattle.host.proofs.write_packed.Statement.{statement}

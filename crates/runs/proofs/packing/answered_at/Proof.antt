@@ -1,8 +1,8 @@
 use mathlib.Core.Path.{ap₂}
 use Prim.Native.Nat.{ℕ, _+_}
 use borrow.Author.Needs.{needs}
-use Rattle.host.proofs.answers.answered_at.Statement.{statement}
-use Rattle.host.proofs.answers.answered_at.Tie as tie
+use Rattle.runs.proofs.packing.answered_at.Statement.{statement}
+use Rattle.runs.proofs.packing.answered_at.Tie as tie
 
 packed-requires : tie.Need-packed-requires
 packed-requires c κs = search needs
