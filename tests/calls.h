@@ -1,4 +1,4 @@
-/* board.h's eleven functions as a record, so that one test serves the library, the plain C and the model. */
+/* board.h's twelve functions as a record, so that one test serves the library, the plain C and the model. */
 #ifndef CALLS_H
 #define CALLS_H
 
@@ -16,12 +16,13 @@ struct calls {
     uint64_t (*found)(struct board *b);
     uint64_t (*read)(const uint8_t *file, size_t len, struct board *b);
     uint64_t (*write)(const struct board *b, uint8_t *out, size_t room, size_t at);
+    uint64_t (*run)(struct board *b, const struct command *commands, size_t n, uint64_t *answers, size_t m);
 };
 
 #define CALLS(p)                                                                                           \
     {                                                                                                      \
         p##_apply, p##_command, p##_check, p##_derives, p##_scope, p##_manager, p##_steps, p##_stretch,    \
-            p##_found, p##_read, p##_write                                                                 \
+            p##_found, p##_read, p##_write, p##_run                                                        \
     }
 
 #define DECLARE_CALLS(p)                                                                                   \
@@ -36,7 +37,8 @@ struct calls {
     uint64_t p##_stretch(const uint8_t *file, size_t len, uint32_t role);                                  \
     uint64_t p##_found(struct board *b);                                                                   \
     uint64_t p##_read(const uint8_t *file, size_t len, struct board *b);                                   \
-    uint64_t p##_write(const struct board *b, uint8_t *out, size_t room, size_t at);
+    uint64_t p##_write(const struct board *b, uint8_t *out, size_t room, size_t at);                       \
+    uint64_t p##_run(struct board *b, const struct command *commands, size_t n, uint64_t *answers, size_t m);
 
 /* The subject of a test: the library, or with -DSUBJECT_PLAIN the plain C in its place. */
 #ifdef SUBJECT_PLAIN

@@ -12,6 +12,7 @@ AT(board, live, 0); AT(board, i, 8); AT(board, a, 520);
 AT(board, derives, 1032); AT(board, derivers, 1544); AT(board, manager, 2056); AT(board, rights, 2120);
 AT(command, code, 0); AT(command, actor, 4); AT(command, role, 8); AT(command, junior, 12); AT(command, kind, 16); AT(command, rights, 20);
 AT(command, a_seniors, 24); AT(command, i_seniors, 32); AT(command, a_juniors, 40); AT(command, i_juniors, 48);
+_Static_assert(sizeof(struct command[3]) == 168, "commands in a row");
 
 enum { ROOM = 52 };
 struct state {
@@ -97,6 +98,45 @@ static void gives_1(struct board b, int field)
     calls += 2;
 }
 
+/* Command k of a run is read at its 56 k-th byte, and answered in the 8 bytes from 8 k on; nothing else is written. */
+enum { IN_RUN = 7, PLACES = IN_RUN + 1 };
+static void runs(const struct command c[IN_RUN], const uint64_t answer[IN_RUN], const struct state *after)
+{
+    struct command commands[IN_RUN];
+    uint64_t row[PLACES + 2], want[PLACES + 2];
+    for (size_t m = 0; m <= PLACES; m++) {
+        struct board b = before.board;
+        memset(row, 0xee, sizeof row);
+        memset(want, 0xee, sizeof want);
+        for (int k = 0; k < IN_RUN; k++) {
+            memcpy((uint8_t *)commands + 56 * k, &c[k], 56);
+            if (m >= IN_RUN) memcpy((uint8_t *)(want + 1) + 8 * k, &answer[k], 8);
+        }
+        uint64_t said = subject.run(&b, commands, IN_RUN, row + 1, m);
+        const struct state *left = m < IN_RUN ? &before : after;
+        if (said != (m < IN_RUN ? 12 | 2 << 8 : 0) || memcmp(row, want, sizeof row) != 0) complain("a run's answers");
+        if (memcmp(&b, &left->board, sizeof b) != 0) complain("the board after a run");
+        calls++;
+    }
+}
+
+/* More commands than a byte counts: all but the last are refused, by turns with 5 and 2. */
+static void runs_long(struct command change, const struct state *after)
+{
+    enum { LONG = 300 };
+    static struct command c[LONG];
+    static uint64_t row[LONG + 1];
+    struct board b = before.board;
+    for (int k = 0; k < LONG; k++) c[k] = change;
+    for (int k = 0; k < LONG - 1; k++) *(k % 2 == 0 ? &c[k].role : &c[k].kind) = k % 2 == 0 ? 0 : 4;
+    row[LONG] = 0xee;
+    uint64_t said = subject.run(&b, c, LONG, row, LONG);
+    for (int k = 0; k < LONG; k++)
+        if (row[k] != (k == LONG - 1 ? 0 : k % 2 == 0 ? 5 : 2)) said = 1;
+    if (said != 0 || row[LONG] != 0xee || memcmp(&b, &after->board, sizeof b) != 0) complain("a run of 300");
+    calls++;
+}
+
 int main(void)
 {
     struct state *const all[] = {&before, &changed, &grown, &founding};
@@ -133,6 +173,15 @@ int main(void)
     c = give, c.rights += 256, gives(c, 2, &before);
     c = give, c.rights = 4, gives(c, 13, &before); /* 1 has it, and 3 doesn't derive 1 */
     c = give, c.role = 1, gives(c, 6 | 1ull << 32 | 1ull << 40, &before);
+
+    /* each of the five refusals, and then both changes */
+    struct command in_run[IN_RUN] = {[5] = change, [6] = give};
+    uint64_t answers[IN_RUN] = {0};
+    for (int k = 0; k < 5; k++) c = change, *field[k] = bad[k], in_run[k] = c, answers[k] = answer[k];
+    struct state both = changed;
+    both.board.rights[8] = 17;
+    runs(in_run, answers, &both);
+    runs_long(change, &changed);
 
     reads_and_writes(&before);
     reads_and_writes(&changed);

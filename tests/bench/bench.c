@@ -71,8 +71,8 @@ static void heading(const char *title)
 int main(int argc, char **argv)
 {
     static struct sample s;
-    static double took[4][CALLS];
-    static char names[4][sizeof s.name];
+    static double took[TABLES][4][CALLS];
+    static char names[TABLES][4][sizeof s.name];
     static const unsigned roles[] = {1, 2, 4, 8, 16, 32, 64}, edges[] = {63, 126, 252, 504, 1008, 2016};
 
     setvbuf(stdout, NULL, _IOLBF, 0);
@@ -80,18 +80,21 @@ int main(int argc, char **argv)
     if (argc > 1 && strstr(argv[1], "emulated"))
         printf("EMULATED: only the ratios mean something, and they with care.\n");
 
-    for (const struct table *t = tables; t < tables + TABLES; t++) {
-        heading(t->title);
-        for (int board = 0; board < t->boards; board++) {
-            choose(&s, t->board[board]);
-            for (int deed = 0; deed < t->deeds; deed++) took[board][deed] = row(t->deed[deed], &s);
-            strcpy(names[board], s.name);
+    for (int t = 0; t < TABLES; t++) {
+        heading(tables[t].title);
+        for (int board = 0; board < tables[t].boards; board++) {
+            choose(&s, tables[t].board[board]);
+            for (int deed = 0; deed < tables[t].deeds; deed++) took[t][board][deed] = row(tables[t].deed[deed], &s);
+            strcpy(names[t][board], s.name);
         }
     }
-    printf("\n"); /* the tables end with the views */
+    printf("\n");
     for (int board = 0; board < tables[VIEWS].boards; board++)
-        printf("the view of %s: %.0f times as fast from the stored values as by calls\n", names[board],
-               took[board][1] / took[board][0]);
+        printf("the view of %s: %.0f times as fast from the stored values as by calls\n", names[VIEWS][board],
+               took[VIEWS][board][1] / took[VIEWS][board][0]);
+    for (int board = 0; board < tables[EVENINGS].boards; board++)
+        printf("the evening on %s: as a run it takes %.2f of the time of thirty calls\n", names[EVENINGS][board],
+               took[EVENINGS][board][0] / took[EVENINGS][board][1]);
     heading("With more roles");
     for (size_t k = 0; k < sizeof roles / sizeof roles[0]; k++) {
         chain(&s, roles[k]);

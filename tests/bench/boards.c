@@ -142,7 +142,8 @@ const char *const deed_name[DEEDS] = {"apply, done", "apply, refused 6", "apply,
                                       "check",       "derives",          "scope",            "manager",
                                       "steps",       "stretch",          "read",             "write",
                                       "apply, barred", "scope, barred",  "apply, given",     "apply, refused 13",
-                                      "command, given", "view, stored",  "view, by calls"};
+                                      "command, given", "view, stored",  "view, by calls",  "run of 30",
+                                      "30 by apply"};
 
 const struct table tables[TABLES] = {
     {"Each call", 4, CALLS, {FOUNDING, TREE_20, CHAIN_64, FULL},
@@ -151,6 +152,7 @@ const struct table tables[TABLES] = {
     {"With roles in the way", 1, 2, {CROSSED}, {BARRED_6, BARRED_SCOPE}},
     {"With rights, and so HR files", 3, 5, {TREE_20_HR, CHAIN_64_HR, FULL_HR}, {GIVEN, REFUSED_13, GIVEN_COMMAND, READ, WRITE}},
     {"The tree view", 3, 2, {CHAIN_64, TREE_64, FULL}, {VIEW_STORED, VIEW_BY_CALLS}},
+    {"An evening of thirty commands", 3, 2, {TREE_20, CHAIN_64, FULL}, {EVENING_RUN, EVENING_APPLIED}},
 };
 
 /* That the answers are right is the comparison's business; here it is enough that a call did what is measured. */
@@ -190,6 +192,39 @@ static void view_by_calls(const struct calls *c, const struct sample *s)
     seen = sum;
 }
 
+/* Ten commands three times: an edge changes its kind and back, a right is given and taken, a role goes and comes back, and four
+ * are refused. That role is the highest without juniors in the scope of role 0. */
+enum { THIRTY = 30 };
+static void evening(const struct sample *s, struct command c[THIRTY], uint8_t number[THIRTY])
+{
+    const struct board *b = &s->board;
+    const uint64_t related = b->derives[0] | b->derivers[0];
+    const unsigned kind = (b->i[0] >> 1 & 1) | (b->a[0] >> 1 & 1) << 1;
+    struct command back = {.code = 1};
+    for (unsigned x = 1; x < 64; x++)
+        if ((b->derives[0] >> x & 1) && (b->derivers[x] & ~related) == 0 && (b->i[x] | b->a[x]) == 0) back.role = x;
+    for (unsigned x = 0; x < 64; x++) {
+        back.i_seniors |= (b->i[x] >> back.role & 1) << x;
+        back.a_seniors |= (b->a[x] >> back.role & 1) << x;
+    }
+    const struct {
+        struct command command;
+        uint8_t number;
+    } ten[] = {
+        {{.code = 5, .junior = 1, .kind = kind % 3 + 1}, 0},
+        {{.code = 2}, 6}, /* the founding role itself */
+        {{.code = 5, .junior = 1, .kind = kind}, 0},
+        {{.code = 3, .role = 1, .kind = 1}, 7}, /* 1 above 0 */
+        {{.code = 6, .role = 1, .rights = 8}, 0},
+        {{.code = 2, .actor = 1, .role = back.role}, 13}, /* which is another right */
+        {{.code = 2, .role = back.role}, 0},
+        {back, 0},
+        {{.code = 7, .role = 1, .rights = 8}, 0},
+        {{.code = 1, .role = 1}, 4},
+    };
+    for (int k = 0; k < THIRTY; k++) c[k] = ten[k % 10].command, number[k] = ten[k % 10].number;
+}
+
 #define REPEAT(call, number)                                                                                           \
     for (long k = 0; k < times; k++) expect(deed, s, call, number)
 
@@ -197,6 +232,9 @@ long perform(enum deed deed, const struct calls *c, struct sample *s, long times
 {
     static uint8_t out[BOARD_FILE];
     static struct board other;
+    static struct command thirty[THIRTY];
+    static uint64_t answers[THIRTY];
+    static uint8_t numbers[THIRTY];
     struct board *b = &s->board;
     const uint8_t *file = s->file, last = s->last, kind = (b->i[0] >> 1 & 1) | (b->a[0] >> 1 & 1) << 1;
     const size_t len = s->len;
@@ -238,8 +276,21 @@ long perform(enum deed deed, const struct calls *c, struct sample *s, long times
     case VIEW_STORED:
         for (long k = 0; k < times; k++) view_stored(c, s);
         break;
-    default:
+    case VIEW_BY_CALLS:
         for (long k = 0; k < times; k++) view_by_calls(c, s);
+        break;
+    case EVENING_RUN:
+        evening(s, thirty, numbers);
+        for (long k = 0; k < times; k++) {
+            expect(deed, s, c->run(b, thirty, THIRTY, answers, THIRTY), 0);
+            for (int n = 0; n < THIRTY; n++) expect(deed, s, answers[n], numbers[n]);
+        }
+        return THIRTY * times;
+    default:
+        evening(s, thirty, numbers);
+        for (long k = 0; k < times; k++)
+            for (int n = 0; n < THIRTY; n++) expect(deed, s, c->apply(b, &thirty[n]), numbers[n]);
+        return THIRTY * times;
     }
     return times;
 }

@@ -24,13 +24,15 @@ void choose(struct sample *s, int board);
 /* What is measured. A done command is given with one that undoes it, so that both can be repeated. Barred is a 6, and a no
  * on scope, with many roles in the way. Given is a right, and then taken back; 13 is found when all that the actor derives has
  * been looked at. A view is the line manager and the steps of all live roles: from one board that is
- * read, or by two calls on the file for each role. */
+ * read, or by two calls on the file for each role. An evening is thirty commands, done and refused, that leave the board as it
+ * was: given as one run, or one by one. */
 enum deed {
     DONE, REFUSED_6, REFUSED_7, COMMAND, CHECK, DERIVES, SCOPE, MANAGER, STEPS, STRETCH, READ, WRITE, CALLS,
-    BARRED_6 = CALLS, BARRED_SCOPE, GIVEN, REFUSED_13, GIVEN_COMMAND, VIEW_STORED, VIEW_BY_CALLS, DEEDS
+    BARRED_6 = CALLS, BARRED_SCOPE, GIVEN, REFUSED_13, GIVEN_COMMAND, VIEW_STORED, VIEW_BY_CALLS,
+    EVENING_RUN, EVENING_APPLIED, DEEDS
 };
 extern const char *const deed_name[DEEDS];
-/* Does it so many times, and returns the number of calls or views. Ends the program where an answer isn't the right one. */
+/* Does it so many times, and returns the number of calls, or of views, or of commands in the evenings. Ends the program where an answer isn't the right one. */
 long perform(enum deed deed, const struct calls *c, struct sample *s, long times);
 
 /* Which is measured on which boards. */
@@ -39,7 +41,7 @@ struct table {
     int boards, deeds, board[4];
     enum deed deed[CALLS];
 };
-enum { EACH_CALL, NUMBERED, BARRED, WITH_RIGHTS, VIEWS, TABLES };
+enum { EACH_CALL, NUMBERED, BARRED, WITH_RIGHTS, VIEWS, EVENINGS, TABLES };
 extern const struct table tables[TABLES];
 
 #endif

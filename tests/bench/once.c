@@ -1,6 +1,7 @@
 /* A call so many times and nothing else: what `tests/run.sh instructions` counts the instructions of. Prints the number of calls.
  * With no words it lists what there is to count: a table's title, or a board, a deed, and the two numbers of times to count the
- * difference of. A view is long enough to be counted against none; that of the full board by calls is left to the clock. */
+ * difference of. A view, or an evening, is long enough to be counted against none; the view of the full board by calls is left to
+ * the clock. */
 #include "boards.h"
 #include <stdio.h>
 #include <stdlib.h>

@@ -45,6 +45,11 @@ static uint64_t noted_write(const struct board *b, uint8_t *out, size_t room, si
     return NOTED->write(b, out, room, at);
 }
 
+static uint64_t noted_run(struct board *b, const struct command *commands, size_t n, uint64_t *answers, size_t m)
+{
+    return NOTED->run(b, commands, n, answers, m);
+}
+
 static const struct calls noted = CALLS(noted);
 
 /* ---- a call on the painted stack */
@@ -96,5 +101,6 @@ int main(int argc, char **argv)
     printf("| %-21s | %9s | %9s |\n|---|---:|---:|\n", "call", SUBJECT_NAME, "plain C");
     rows(&tables[EACH_CALL], "");
     rows(&tables[WITH_RIGHTS], ", HR");
+    rows(&tables[EVENINGS], "");
     return 0;
 }

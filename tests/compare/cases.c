@@ -10,7 +10,7 @@
 static const struct calls subject = CALLS_OF(SUBJECT);
 
 const char *const call_name[CALL_COUNT] = {"apply", "command", "check",   "derives", "scope", "manager",
-                                           "steps", "stretch", "found",   "read",    "write"};
+                                           "steps", "stretch", "found",   "read",    "write", "run"};
 
 /* The case in hand, for messages. */
 static struct {
@@ -18,7 +18,9 @@ static struct {
     const struct board *board;
     const uint8_t *file;
     size_t len, room, at;
-    const struct command *command;
+    const struct command *command; /* one, or those of a run */
+    size_t commands, places;
+    uint64_t fill;
     uint32_t x, y;
 } now;
 
@@ -38,19 +40,26 @@ static void print_board(const struct board *b)
     }
 }
 
+static void print_command(const struct command *c)
+{
+    printf(" numbers=%u,%u,%u,%u,%u,%u,%llx,%llx,%llx,%llx", c->code, c->actor, c->role, c->junior, c->kind, c->rights,
+           (unsigned long long)c->a_seniors, (unsigned long long)c->i_seniors, (unsigned long long)c->a_juniors,
+           (unsigned long long)c->i_juniors);
+}
+
+static bool on_board(enum call call) { return call == APPLY || call == WRITE || call == RUN; }
+
 static void print_case(void)
 {
     printf("replay: %s", call_name[now.call]);
-    if (now.call == APPLY || now.call == WRITE) print_board(now.board);
+    if (on_board(now.call)) print_board(now.board);
     else if (now.call != FOUND) {
         printf(" file=");
         for (size_t k = 0; k < now.len; k++) printf("%02x", now.file[k]);
     }
-    if (now.call == APPLY || now.call == COMMAND)
-        printf(" numbers=%u,%u,%u,%u,%u,%u,%llx,%llx,%llx,%llx", now.command->code, now.command->actor,
-               now.command->role, now.command->junior, now.command->kind, now.command->rights,
-               (unsigned long long)now.command->a_seniors, (unsigned long long)now.command->i_seniors,
-               (unsigned long long)now.command->a_juniors, (unsigned long long)now.command->i_juniors);
+    if (now.call == APPLY || now.call == COMMAND) print_command(now.command);
+    for (size_t k = 0; now.call == RUN && k < now.commands; k++) print_command(&now.command[k]);
+    if (now.call == RUN) printf(" places=%zu fill=%llx", now.places, (unsigned long long)now.fill);
     if (now.call == COMMAND || now.call == WRITE) printf(" room=%zu", now.room);
     if (now.call == WRITE) printf(" at=%zu", now.at);
     if (now.call >= DERIVES && now.call <= STRETCH) printf(" x=%u y=%u", now.x, now.y);
@@ -99,7 +108,7 @@ static uint8_t *build_wall(void)
 }
 
 /* Copies that end where unreadable memory begins. */
-enum lending { THE_FILE, THE_COMMAND, THE_BOARD, LENDINGS };
+enum lending { THE_FILE, THE_COMMAND, THE_BOARD, THE_COMMANDS, THE_ROW, LENDINGS };
 static void *lend(enum lending what, const void *from, size_t len)
 {
     static uint8_t *wall[LENDINGS];
@@ -270,6 +279,17 @@ struct lent_board {
     struct board board;
 };
 
+static void same_board(const struct lent_board *lent, const struct lent_board *want, uint8_t number)
+{
+    if (memcmp(&lent->board, &want->board, offsetof(struct board, derives)) != 0)
+        disagree("number %u, another board afterwards", number);
+    if (memcmp(&lent->board, &want->board, offsetof(struct board, rights)) != 0)
+        disagree("number %u, other stored values afterwards", number);
+    if (memcmp(&lent->board, &want->board, sizeof want->board) != 0)
+        disagree("number %u, other rights afterwards", number);
+    if (memcmp(lent, want, sizeof *want) != 0) disagree("bytes before the board were touched");
+}
+
 uint8_t try_apply(const struct view *v, const struct board *b, const struct command *c, struct view *after)
 {
     static struct lent_board want;
@@ -287,13 +307,7 @@ uint8_t try_apply(const struct view *v, const struct board *b, const struct comm
 
     unsigned long long said = subject.apply(&lent->board, command);
     if (said != answer) disagree("answer %#llx, the model %#llx", said, answer);
-    if (memcmp(&lent->board, &want.board, offsetof(struct board, derives)) != 0)
-        disagree("number %u, another board afterwards", number);
-    if (memcmp(&lent->board, &want.board, offsetof(struct board, rights)) != 0)
-        disagree("number %u, other stored values afterwards", number);
-    if (memcmp(&lent->board, &want.board, sizeof want.board) != 0)
-        disagree("number %u, other rights afterwards", number);
-    if (memcmp(lent, &want, sizeof want) != 0) disagree("bytes before the board were touched");
+    same_board(lent, &want, number);
     if (memcmp(command, c, sizeof *c) != 0) disagree("the command was touched");
 
     tally_command(APPLY, v, c, number);
@@ -422,17 +436,106 @@ uint8_t try_write(const struct view *v, const struct board *b, size_t room, size
     return BOARD_NUMBER(answer);
 }
 
+/* ---- runs */
+
+enum { WORDS = 8 }; /* before the row, and behind the model's, which has no wall */
+
+static int length_class(size_t n) { return n < 2 ? (int)n : n < 30 ? TO_29 : n < 100 ? TO_99 : TO_200; }
+
+static int row_class(size_t n, size_t m)
+{
+    if (m < n) return m == 0 ? ROW_EMPTY : m == n - 1 ? ONE_SHORT : MORE_SHORT;
+    return m == n ? ROW_FITS : m == n + 1 ? ONE_OVER : MORE_OVER;
+}
+
+static void tally_run(const struct view *v, const struct command *c, size_t n, size_t m, const uint64_t *answers)
+{
+    tally.rows[length_class(n)][row_class(n, m)]++;
+    if (n == 0 || m < n) return;
+    bool met[TRAITS] = {[OF_200] = n == RUN_MOST, [ON_UNSOUND] = answers[0] == 1, [ALL_DONE] = n > 1};
+    met[ALL_REFUSED] = n > 1 && answers[0] != 1;
+    met[FIRST_REFUSED] = answers[0] != 0;
+    met[LAST_REFUSED] = answers[n - 1] != 0;
+    for (size_t k = 0; k < n; k++) {
+        uint8_t number = BOARD_NUMBER(answers[k]);
+        tally.run[code_class(&c[k])][number]++;
+        if (number == 6) tally.run_cause[BOARD_CAUSE(answers[k])]++;
+        *(number == 0 ? &met[ALL_REFUSED] : &met[ALL_DONE]) = false;
+        met[BY_A_NEW_ROLE] |= number == 0 && !v->board.live[c[k].actor];
+        if (k == 0) continue;
+        met[THEN_DONE] |= number == 0 && answers[k - 1] != 0;
+        met[SAME_AGAIN] |= answers[k] != answers[k - 1] && memcmp(&c[k], &c[k - 1], sizeof *c) == 0;
+    }
+    for (int k = 0; k < TRAITS; k++) tally.trait[k] += met[k];
+    tally.in_runs += n;
+}
+
+static void one_by_one(const struct board *b, const struct command *c, size_t n, const uint64_t *answers,
+                       const struct board *left)
+{
+    struct board by_itself = *b;
+    for (size_t k = 0; k < n; k++) {
+        unsigned long long said = subject.apply(&by_itself, &c[k]);
+        if (said != answers[k])
+            disagree("command %zu is answered %#llx in the run, %#llx by itself", k, (unsigned long long)answers[k], said);
+    }
+    if (memcmp(&by_itself, left, sizeof by_itself) != 0) disagree("another board than by one command at a time");
+}
+
+const uint64_t *try_run(const struct view *v, const struct board *b, const struct command *c, size_t n, size_t m,
+                        uint64_t fill)
+{
+    static uint64_t row[WORDS + ROW_MOST + WORDS];
+    static struct lent_board want;
+    const struct view *left;
+    const struct command *commands = lend(THE_COMMANDS, c, n * sizeof *c);
+
+    now.call = RUN, now.board = b, now.command = c, now.commands = n, now.places = m, now.fill = fill;
+    tally.calls++;
+    paint((uint8_t *)&want, sizeof want);
+    want.board = *b;
+    struct lent_board *lent = lend(THE_BOARD, &want, sizeof want);
+    for (size_t k = 0; k < WORDS + m + WORDS; k++) row[k] = (fill + k) * 0x9e3779b97f4a7c15u;
+    uint64_t *lent_row = lend(THE_ROW, row, (WORDS + m) * sizeof *row);
+    unsigned long long answer = answer_run(v, c, n, row + WORDS, m, &left);
+    to_board(left, &want.board);
+
+    unsigned long long said = subject.run(&lent->board, commands, n, lent_row + WORDS, m);
+    if (said != answer) disagree("answer %#llx, the model %#llx", said, answer);
+    if (memcmp(lent_row, row, WORDS * sizeof *row) != 0) disagree("words before the row were touched");
+    for (size_t k = 0; k < m; k++)
+        if (lent_row[WORDS + k] != row[WORDS + k])
+            disagree("answer %#llx, place %zu of %zu holds %#llx, in the model %#llx", said, k, m,
+                     (unsigned long long)lent_row[WORDS + k], (unsigned long long)row[WORDS + k]);
+    same_board(lent, &want, BOARD_NUMBER(answer));
+    if (memcmp(commands, c, n * sizeof *c) != 0) disagree("the commands were touched");
+    if (answer == 0) one_by_one(b, c, n, row + WORDS, &want.board);
+    tally_run(v, c, n, m, row + WORDS);
+    return row + WORDS;
+}
+
 /* ---- replay */
 
-/* APPLY or WRITE. */
+static bool read_command(const char *word, struct command *c)
+{
+    unsigned long long s[4];
+    unsigned n[6];
+    if (sscanf(word, "numbers=%u,%u,%u,%u,%u,%u,%llx,%llx,%llx,%llx", n, n + 1, n + 2, n + 3, n + 4, n + 5, s, s + 1,
+               s + 2, s + 3) != 10)
+        return false;
+    *c = (struct command){n[0], n[1], n[2], n[3], n[4], n[5], s[0], s[1], s[2], s[3]};
+    return true;
+}
+
+/* APPLY, WRITE or RUN. */
 static void replay_board(enum call call, char *words)
 {
     static struct board b;
     static struct view v, after;
-    static struct command c;
-    unsigned long long set, s[4];
-    unsigned n[6], row;
-    size_t room = 0, at = 0;
+    static struct command c[RUN_MOST + 1]; /* the last is written and not given */
+    unsigned long long set, fill = 0;
+    unsigned row;
+    size_t room = 0, at = 0, commands = 0, places = 0;
     memset(&b, 0, sizeof b);
     memset(b.manager, NONE, sizeof b.manager);
     for (char *w = strtok(words, " \n"); w != NULL; w = strtok(NULL, " \n")) {
@@ -443,13 +546,17 @@ static void replay_board(enum call call, char *words)
         else if (sscanf(w, "up%u=%llx", &row, &set) == 2 && row < ROLES) b.derivers[row] = set;
         else if (sscanf(w, "m%u=%llu", &row, &set) == 2 && row < ROLES) b.manager[row] = set;
         else if (sscanf(w, "r%u=%llu", &row, &set) == 2 && row < ROLES) b.rights[row] = set;
-        else if (sscanf(w, "numbers=%u,%u,%u,%u,%u,%u,%llx,%llx,%llx,%llx", n, n + 1, n + 2, n + 3, n + 4, n + 5, s, s + 1,
-                        s + 2, s + 3) == 10)
-            c = (struct command){n[0], n[1], n[2], n[3], n[4], n[5], s[0], s[1], s[2], s[3]};
+        else if (read_command(w, &c[commands])) commands += commands < RUN_MOST;
+        else if (sscanf(w, "places=%zu", &places) == 1 || sscanf(w, "fill=%llx", &fill) == 1) continue;
         else if (sscanf(w, "room=%zu", &room) != 1) sscanf(w, "at=%zu", &at);
     }
     from_board(&b, &v);
-    uint8_t number = call == APPLY ? try_apply(&v, &b, &c, &after) : try_write(&v, &b, room <= ROOM ? room : ROOM, at);
+    if (call == RUN) {
+        try_run(&v, &b, c, commands, places <= ROW_MOST ? places : ROW_MOST, fill);
+        printf("agreed: run of %zu commands, %zu places\n", commands, places);
+        return;
+    }
+    uint8_t number = call == APPLY ? try_apply(&v, &b, c, &after) : try_write(&v, &b, room <= ROOM ? room : ROOM, at);
     printf("agreed: %s gives %u\n", call_name[call], number);
 }
 
@@ -458,16 +565,13 @@ static void replay_file(enum call call, char *words)
     static uint8_t file[BUFFER];
     static struct opened o;
     static struct command c;
-    unsigned long long s[4];
-    unsigned n[6], x = 0, y = 0;
+    unsigned x = 0, y = 0;
     size_t len = 0, room = 0;
     for (char *w = strtok(words, " \n"); w != NULL; w = strtok(NULL, " \n")) {
         if (strncmp(w, "file=", 5) == 0)
             for (w += 5; len < BUFFER && w[0] != 0 && w[1] != 0; w += 2)
                 file[len++] = strtoul((char[]){w[0], w[1], 0}, NULL, 16);
-        else if (sscanf(w, "numbers=%u,%u,%u,%u,%u,%u,%llx,%llx,%llx,%llx", n, n + 1, n + 2, n + 3, n + 4, n + 5, s, s + 1,
-                        s + 2, s + 3) == 10)
-            c = (struct command){n[0], n[1], n[2], n[3], n[4], n[5], s[0], s[1], s[2], s[3]};
+        else if (read_command(w, &c)) continue;
         else if (sscanf(w, "x=%u", &x) != 1 && sscanf(w, "y=%u", &y) != 1) sscanf(w, "room=%zu", &room);
     }
     open_file(&o, file, len);
@@ -494,7 +598,7 @@ int replay(const char *name)
             size_t len = strlen(call_name[call]);
             if (strncmp(word, call_name[call], len) != 0 || strchr(" \n", word[len]) == NULL) continue;
             if (call == FOUND) try_found(), printf("agreed: found\n");
-            else if (call == APPLY || call == WRITE) replay_board(call, word + len);
+            else if (on_board(call)) replay_board(call, word + len);
             else replay_file(call, word + len);
             cases++;
         }

@@ -1,9 +1,15 @@
 /* splitmix64: every case of a run follows from its seed. */
 #include "compare.h"
 
-static uint64_t state;
+static uint64_t state, other;
 
-void seed_with(uint64_t seed) { state = seed; }
+void seed_with(uint64_t seed) { state = seed, other = ~seed; }
+
+void other_chance(void)
+{
+    uint64_t was = state;
+    state = other, other = was;
+}
 
 uint64_t draw64(void)
 {

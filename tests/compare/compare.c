@@ -90,6 +90,15 @@ static void drawn_boards(void)
     run_commands(12);
 }
 
+/* One unsound board of a round is kept for its runs, made in another way each time. */
+static struct view spoilt;
+
+static void keep_spoilt(void)
+{
+    static int boards;
+    if (boards++ % (UNSOUND_WAYS + WRONG_WAYS + RIGHTS_WAYS - 3) == 0) spoilt = here;
+}
+
 /* The board in hand, made to give 1 whatever is asked of it. */
 static void refused_board(const char *way)
 {
@@ -103,6 +112,7 @@ static void refused_board(const char *way)
     choose_place(below(PLACES), put_file(&here.board, whole), &room, &at);
     number = try_write(&here, &board, room, at);
     if (number != 1) disagree("%s: made to be unsound, and both give %u", way, number);
+    keep_spoilt();
 }
 
 static void unsound_boards(void)
@@ -282,15 +292,27 @@ static void start_with_rights(void)
     start();
 }
 
+/* What is dear to draw is kept with its board, and given again in a run. */
+struct kept {
+    struct model on;
+    struct command command[16];
+    int count;
+};
+static struct kept tied, chained, forked, crossed, outside, unmanaging[CODES];
+
+static void keep_board(struct kept *k) { k->on = here.board, k->count = 0; }
+static void keep_command(struct kept *k, const struct command *c) { k->command[k->count++] = *c; }
+
 static void rare_refusals(void)
 {
     struct command c;
     draw_tied(&here);
     start_with_rights();
-    draw_refused(&here, ADD_ROLE, 9, &c), try_both_ways(&c);
-    draw_refused(&here, ADD_EDGE, 9, &c), try_both_ways(&c);
-    draw_part_refused(&here, ADD_EDGE, 9, &c), try_both(&c);
-    draw_refused(&here, CHANGE_EDGE, 9, &c), try_both_ways(&c);
+    keep_board(&tied);
+    draw_refused(&here, ADD_ROLE, 9, &c), try_both_ways(&c), keep_command(&tied, &c);
+    draw_refused(&here, ADD_EDGE, 9, &c), try_both_ways(&c), keep_command(&tied, &c);
+    draw_part_refused(&here, ADD_EDGE, 9, &c), try_both(&c), keep_command(&tied, &c);
+    draw_refused(&here, CHANGE_EDGE, 9, &c), try_both_ways(&c), keep_command(&tied, &c);
     open_file(&opened, file, make_file(AS_WRITTEN, &here, file));
     for (int k = 0; k < 10; k++) {
         uint32_t a = some_role(), r = some_role();
@@ -298,11 +320,13 @@ static void rare_refusals(void)
     }
     draw_chained(&here);
     start_with_rights();
-    draw_refused(&here, ADD_ROLE, 7, &c), try_both_ways(&c);
-    if (draw_hidden_loop(&here, &c)) try_both(&c);
+    keep_board(&chained);
+    draw_refused(&here, ADD_ROLE, 7, &c), try_both_ways(&c), keep_command(&chained, &c);
+    if (draw_hidden_loop(&here, &c)) try_both(&c), keep_command(&chained, &c);
     draw_forked(&here);
     start_with_rights();
-    draw_part_refused(&here, REMOVE_EDGE, 9, &c), try_both(&c);
+    keep_board(&forked);
+    draw_part_refused(&here, REMOVE_EDGE, 9, &c), try_both(&c), keep_command(&forked, &c);
 }
 
 /* A role that offends wherever a command can name one, by every cause, and more than one at once. */
@@ -314,9 +338,11 @@ static void offending_roles(void)
     else draw_sound(&here, 12);
     start_with_rights();
     open_file(&opened, file, make_file(AS_WRITTEN, &here, file));
+    keep_board(&crossed);
     for (size_t k = 0; k < sizeof codes; k++) {
         draw_offence(&here, codes[k], &c);
         if (c.code == ADD_ROLE && chance(10)) c.role = c.actor; /* 4 comes first */
+        if (k % 2 == 0) keep_command(&crossed, &c);
         try_apply(&here, &board, &c, &after);
         try_command(&opened, &c, ROOM);
         if (c.code != ADD_ROLE) try_question(&opened, SCOPE, c.actor, c.role);
@@ -335,6 +361,8 @@ static void whose_rights(void)
             else draw_crossed(&here);
             all_rights(&here.board);
             start();
+            struct kept *kept = number == 9 ? &unmanaging[code] : &outside;
+            if (number > 7) keep_board(kept);
             int source = number == 9 ? some_lack() : chance(10) ? ONE_REACHED : below(SOURCES);
             for (int tries = number == 9 ? 1 : 3; tries > 0; tries--) { /* not every actor has such a role */
                 if (number == 6) draw_offence(&here, code, &c);
@@ -342,6 +370,7 @@ static void whose_rights(void)
                 if (place_rights(&here, &c, source)) break;
                 if (tries == 1) place_rights(&here, &c, NOBODY);
             }
+            if (number > 7) keep_command(kept, &c);
             if (number > 1 && number < 6) draw_spoilt(&here, number, &c);
             to_board(&here, &board);
             try_both(&c);
@@ -407,6 +436,115 @@ static void nearly_hh(void)
     draw_refused(&here, GIVE_RIGHTS, 0, &c), try_both(&c);
 }
 
+/* ---- runs */
+
+static struct command in_run[RUN_MOST];
+
+/* A run for the board in hand: those kept, and others, each drawn on the board that the run has come to. The more often one is
+ * drawn while it is refused, the more are done. */
+static void draw_run(const struct kept *from, int n, int draws)
+{
+    static struct view boards[2];
+    const struct view *at = &here;
+    int given = 0, count = from != NULL ? from->count : 0, percent = chance(70) ? 95 : 50;
+    for (int k = 0; k < n; k++) {
+        struct view *next = &boards[at == &boards[0]];
+        bool again = k > 0 && chance(8), kept = !again && given < count && chance(percent), done = false;
+        if (again) in_run[k] = in_run[k - 1];
+        if (kept) in_run[k] = from->command[given++];
+        for (int tries = again || kept ? 1 : draws; tries > 0 && !done; tries--) {
+            if (!again && !kept) draw_command(at, &in_run[k]);
+            done = step_on_sound(at, &in_run[k], next) == 0;
+        }
+        if (done) at = next;
+    }
+}
+
+static const uint64_t *try_row(int n, int places) { return try_run(&here, &board, in_run, n, places, draw64()); }
+
+/* With a row too short, in one way or in each, and with one that is long enough. */
+static void try_rows(int n)
+{
+    int way = n < 30 ? below(3) : 3;
+    if (n > 0 && (way == 0 || way == 3 || n == 1)) try_row(n, 0);
+    if (n > 1 && (way == 1 || way == 3 || n == 2)) try_row(n, n - 1);
+    if (n > 2 && (way == 2 || way == 3)) try_row(n, 1 + below(n - 2));
+    int over = chance(40) ? 0 : chance(40) ? 1 : 2 + below(ROW_MOST - RUN_MOST - 1);
+    try_row(n, n + over);
+}
+
+/* All that is kept, mostly, and at most so many more. */
+static void run_on(const struct kept *k, int more)
+{
+    int n = k->count + below(more + 1);
+    here.board = k->on;
+    start();
+    draw_run(k, n, 1);
+    try_rows(n);
+}
+
+/* Every command is answered 1, but where the row is too short. */
+static void run_on_unsound(void)
+{
+    int n = chance(30) ? 0 : 1 + below(6);
+    here = spoilt;
+    to_board(&here, &board);
+    for (int k = 0; k < n; k++) {
+        draw_command(&here, &in_run[k]);
+        if (chance(30)) in_run[k].code = below(9);
+    }
+    if (n > 0) try_row(n, below(n));
+    tally.trait[n > 0 ? SHORT_ON_UNSOUND : NONE_ON_UNSOUND]++;
+    const uint64_t *answers = try_row(n, n + below(3));
+    for (int k = 0; k < n; k++)
+        if (answers[k] != 1) disagree("made to be unsound, and both answer %#llx", (unsigned long long)answers[k]);
+}
+
+/* Two commands: the model takes long on such a board. */
+static void run_on_largest(void)
+{
+    if (chance(50)) draw_tree(&here, ROLES);
+    else draw_full(&here, chance(50));
+    start();
+    draw_run(NULL, 2, 1);
+    try_rows(2);
+}
+
+/* Every class of lengths comes up often enough; the longest are dear. */
+static int some_length(long round)
+{
+    if (round % 5 == 0) return RUN_MOST;
+    if (round % 5 == 2) return 30 + below(30);
+    return chance(4) ? 60 + below(RUN_MOST - 60) : 2 + below(10);
+}
+
+/* By the other chance: all else is drawn as if there were no runs. */
+static void runs(long round)
+{
+    other_drawing();
+    run_on(&tied, 4);
+    run_on(&chained, 4);
+    run_on(&forked, 4);
+    run_on(&crossed, 6);
+    run_on(&outside, 2);
+    run_on(&unmanaging[ADD_ROLE], 2);
+    run_on(&unmanaging[CHANGE_EDGE], 2);
+    for (int k = 0; k < 2; k++) run_on_unsound();
+    draw_sound(&here, 9);
+    if (chance(70)) all_rights(&here.board);
+    start();
+    int few = chance(65) ? below(2) : 2 + below(3);
+    draw_run(NULL, few, 4);
+    try_rows(few);
+    found(&here.board);
+    start();
+    int many = some_length(round);
+    draw_run(NULL, many, 1);
+    try_rows(many);
+    if (round % 8 == 1) run_on_largest();
+    other_drawing();
+}
+
 /* ---- all that is largest */
 
 static void largest_boards(void)
@@ -464,12 +602,13 @@ static int run(const struct size *size, uint64_t seed)
         whose_rights();
         rights_of_its_own();
         nearly_hh();
+        runs(round);
         if (round % 2 == 0) largest_boards();
         if (round == 0) deepest_board();
     }
     int wanting = print_tally(size->least);
-    printf("\nseed %llu: %ld commands, %ld files, %ld calls in all, 0 disagreements, %d classes wanting\n",
-           (unsigned long long)seed, tally.commands, tally.files, tally.calls, wanting);
+    printf("\nseed %llu: %ld commands, %ld more in runs, %ld files, %ld calls in all, 0 disagreements, %d classes wanting\n",
+           (unsigned long long)seed, tally.commands, tally.in_runs, tally.files, tally.calls, wanting);
     return wanting == 0 ? 0 : 3;
 }
 

@@ -6,6 +6,7 @@
 
 /* ---- chance.c: numbers drawn from a seed */
 void seed_with(uint64_t seed);
+void other_chance(void); /* there are two, and what is drawn by one leaves the other as it was */
 uint64_t draw64(void);
 int below(int n); /* 0 to n - 1 */
 bool chance(int percent);
@@ -32,6 +33,7 @@ void draw_spoilt(const struct view *v, int number, struct command *c); /* a fair
 void draw_offence(const struct view *v, int code, struct command *c);
 /* An edge whose junior reaches its senior and doesn't derive it. */
 bool draw_hidden_loop(const struct view *v, struct command *c);
+void other_drawing(void); /* by the other chance, until it is called again */
 
 void draw_rights(struct model *m); /* as all that is drawn above has them */
 void all_rights(struct model *m);
@@ -84,7 +86,7 @@ enum { EMPTY, AS_WRITTEN }; /* the first two of the list; the first alone has no
 size_t make_file(int damage, struct view *v, uint8_t *file);
 
 /* ---- cases.c: one call at a time, on both sides */
-enum call { APPLY, COMMAND, CHECK, DERIVES, SCOPE, MANAGER, STEPS, STRETCH, FOUND, READ, WRITE, CALL_COUNT };
+enum call { APPLY, COMMAND, CHECK, DERIVES, SCOPE, MANAGER, STEPS, STRETCH, FOUND, READ, WRITE, RUN, CALL_COUNT };
 extern const char *const call_name[CALL_COUNT];
 
 /* Both sides get the board and the command; the number and the board afterwards must agree.
@@ -95,6 +97,11 @@ void try_command(const struct opened *o, const struct command *c, size_t room);
 void try_found(void);
 void try_read(const struct opened *o);
 uint8_t try_write(const struct view *v, const struct board *b, size_t room, size_t at);
+/* The row has m places, and what they hold before follows from `fill`. The subject gets the commands once as a run and once
+ * by themselves. The model's row afterwards. */
+enum { RUN_MOST = 200, ROW_MOST = RUN_MOST + 64 };
+const uint64_t *try_run(const struct view *v, const struct board *b, const struct command *c, size_t n, size_t m,
+                        uint64_t fill);
 void disagree(const char *what, ...); /* prints the case in hand and ends the program */
 int replay(const char *name);         /* a file of case lines, or "-" */
 void watch_for_crashes(void);
@@ -103,10 +110,18 @@ void watch_for_crashes(void);
 /* The role in the way: 0; the lowest of several; and lower numbers that are not in the way, for four reasons. */
 enum { ROLE_0, OF_SEVERAL, PAST_ABOVE, PAST_BELOW, PAST_ASIDE, PAST_DEAD, WAYS };
 enum { CODES = 8, NUMBERS = 14 };
+/* How many commands a run has, and how long its row is for it. */
+enum { NO_COMMAND, ONE_COMMAND, TO_29, TO_99, TO_200, LENGTHS };
+enum { ROW_EMPTY, MORE_SHORT, ONE_SHORT, ROW_FITS, ONE_OVER, MORE_OVER, ROWS };
+/* What a run was met with; SAME_AGAIN is a command given twice in a row and answered in two ways. */
+enum {
+    OF_200, FIRST_REFUSED, LAST_REFUSED, THEN_DONE, SAME_AGAIN, BY_A_NEW_ROLE, ALL_DONE, ALL_REFUSED,
+    ON_UNSOUND, NONE_ON_UNSOUND, SHORT_ON_UNSOUND, TRAITS
+};
 /* What became of the rights that 6 and 7 name. */
 enum { NONE_NAMED, NONE_CHANGED, SOME_CHANGED, ALL_CHANGED, AT_ITSELF, AT_ROLE_0, NONE_LEFT, SOME_USABLE, OUTCOMES };
 struct tally {
-    long commands, files, calls;
+    long commands, files, calls, in_runs; /* the last are commands, too, and not among the first */
     long apply[CODES][NUMBERS];
     long command[CODES][3][NUMBERS];
     long question[CALL_COUNT][3][NUMBERS];
@@ -138,6 +153,8 @@ struct tally {
     long wide_used[2][FIELDS];          /* above 255, of apply and command: 2 for that alone */
     long wide_unused[2][CODES][FIELDS]; /* and done */
     long removed_with_rights;
+    long run[CODES][NUMBERS], run_cause[4]; /* of the commands in a run, as of apply */
+    long rows[LENGTHS][ROWS], trait[TRAITS];
     long wide_role[CALL_COUNT][2];                     /* above 255, first or second of a question: 2 for that alone */
 };
 extern struct tally tally;

@@ -9,6 +9,14 @@ static int lean;
 static uint8_t draw_kind(void) { return lean < 3 && chance(75) ? lean + 1 : 1 + below(3); }
 static void draw_edge(struct model *m, int senior, int junior) { m->kind[senior][junior] = draw_kind(); }
 
+void other_drawing(void)
+{
+    static int others;
+    int was = lean;
+    lean = others, others = was;
+    other_chance();
+}
+
 /* The founding board's role 0 first, then other roles in any order. */
 static void draw_order(int order[ROLES])
 {

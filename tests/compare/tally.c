@@ -82,6 +82,55 @@ static void commands(void)
     }
 }
 
+/* Of each command in a run, and of the run itself. */
+static void runs(void)
+{
+    static const char *const columns[] = {"0", "1", "2", "3", "4", "5", "13", "6", "7", "8", "9"};
+    static const char *const rows[ROWS] = {"empty", "shorter", "1 short", "fits", "1 over", "longer"};
+    static const char *const causes[] = {"1", "2", "3"};
+    static const char *const length[LENGTHS] = {"no command", "1 command", "2 to 29 commands", "30 to 99 commands",
+                                                "100 to 200 commands"};
+    static const char *const trait[TRAITS] = {
+        "of 200 commands", "the first refused", "the last refused", "one done right after a refused one",
+        "the same again, another answer", "by a role that is new in the run", "all done", "all refused",
+        "on a board that isn't sound", "of no command on such a board", "row too short on such a board"};
+    static const int in_order[] = {0, 1, 2, 3, 4, 5, 13, 6, 7, 8, 9};
+    char what[40];
+    heading("board_run, each command", columns, 11);
+    for (int code = 0; code < CODES; code++) {
+        printf("%-36s", code_name[code]);
+        for (int k = 0; k < 11; k++) printf("%8ld", tally.run[code][in_order[k]]);
+        printf("\n");
+        for (int n = 0; n < NUMBERS; n++) {
+            sprintf(what, "code %d gives %d", code, n);
+            if (n == 1 || can_give(code, n)) need(tally.run[code][n], "in a run", what);
+            else never(tally.run[code][n], "in a run", what);
+        }
+    }
+    heading("cause of a 6 in a run", causes, 3);
+    printf("%-36s%8ld%8ld%8ld\n", call_name[RUN], tally.run_cause[1], tally.run_cause[2], tally.run_cause[3]);
+    for (int k = 1; k < 4; k++) need(tally.run_cause[k], "cause of a 6 in a run", causes[k - 1]);
+    heading("runs, and their rows", rows, ROWS);
+    long fits[ROWS] = {0};
+    for (int n = 0; n < LENGTHS; n++) {
+        long enough_room = 0;
+        printf("%-36s", length[n]);
+        for (int k = 0; k < ROWS; k++) printf("%8ld", tally.rows[n][k]);
+        printf("\n");
+        for (int k = 0; k < ROWS; k++)
+            if (k >= ROW_FITS) fits[k] += tally.rows[n][k], enough_room += tally.rows[n][k];
+            else if (n > ONE_COMMAND || (n == ONE_COMMAND && k == ROW_EMPTY)) need(tally.rows[n][k], length[n], rows[k]);
+            else never(tally.rows[n][k], length[n], rows[k]);
+        need(enough_room, length[n], "with room for the answers");
+    }
+    for (int k = ROW_FITS; k < ROWS; k++) need(fits[k], "run, row", rows[k]);
+    printf("runs\n");
+    for (int k = 0; k < TRAITS; k++) {
+        printf("%-36s%8ld\n", trait[k], tally.trait[k]);
+        need(tally.trait[k], "run", trait[k]);
+    }
+}
+
 /* What an edge command names and what stands there, from apply and from command each. */
 static void parts(void)
 {
@@ -474,6 +523,7 @@ int print_tally(long least)
     wanting = 0;
     printf("\n");
     commands();
+    runs();
     parts();
     causes();
     orders();

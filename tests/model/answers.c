@@ -125,6 +125,23 @@ uint64_t answer_write(const struct view *v, uint8_t *out, size_t room, size_t at
     return answer(number, number == 12 ? IN_WRITING : ASKED, len);
 }
 
+/* Nothing is tried where the row is too short; else one by one, whatever those before were answered. */
+uint64_t answer_run(const struct view *before, const struct command *commands, size_t n, uint64_t *answers, size_t m,
+                    const struct view **left)
+{
+    static struct view boards[2]; /* by turns */
+    uint64_t done = answer(0, ASKED, 0); /* the run's own answer */
+    *left = before;
+    if (m < n) return answer(12, IN_WRITING, 0);
+    for (size_t k = 0; k < n; k++) {
+        struct view *after = &boards[*left == &boards[0]];
+        uint64_t applied = answer_apply(*left, &commands[k], after);
+        answers[k] = applied;
+        if (applied == 0) *left = after;
+    }
+    return done;
+}
+
 /* ---- the same with board.h's signatures, each reading the file anew */
 
 static struct opened *opened(const uint8_t *file, size_t len)
@@ -171,4 +188,14 @@ uint64_t model_write(const struct board *b, uint8_t *out, size_t room, size_t at
     static struct view v;
     from_board(b, &v);
     return answer_write(&v, out, room, at);
+}
+
+uint64_t model_run(struct board *b, const struct command *commands, size_t n, uint64_t *answers, size_t m)
+{
+    static struct view before;
+    const struct view *left;
+    from_board(b, &before);
+    uint64_t reply = answer_run(&before, commands, n, answers, m, &left);
+    to_board(left, b);
+    return reply;
 }

@@ -1,5 +1,5 @@
-/* The scope document's examples, and some of an edge's parts, of roles that offend and of rights, on any implementation
- * of board.h. */
+/* The scope document's examples, and some of an edge's parts, of roles that offend, of rights and of runs, on any
+ * implementation of board.h. */
 #include "model.h"
 #include <stdio.h>
 #include <string.h>
@@ -351,6 +351,60 @@ static void file_with_rights(struct board p)
     expect("its bytes", memcmp(out, bare, sizeof bare) != 0, false);
 }
 
+/* Gives the commands as a run with a row of m places, and hands back the board afterwards. The places that no answer goes to
+ * stay, those before and behind the row too. */
+static struct board runs(const char *what, struct board b, const struct command *c, size_t n, const uint64_t *want, size_t m)
+{
+    enum { PLACES = 9, EMPTY = 77 };
+    struct board was = b;
+    uint64_t row[PLACES];
+    for (size_t k = 0; k < PLACES; k++) row[k] = EMPTY + k;
+    expect(what, use->run(&b, c, n, row + 1, m), m < n ? 12 | 2 << 8 : 0);
+    for (size_t k = 0; k < PLACES; k++) expect(what, row[k], m >= n && k > 0 && k <= n ? want[k - 1] : EMPTY + k);
+    if (m < n) expect(what, memcmp(&b, &was, sizeof b) != 0, false);
+    return b;
+}
+
+/* Each command on the board that the one before it left, and on after a refused one. */
+static void evenings(struct board founding, struct board w)
+{
+    struct board b, grown = with_rights(board_of("0 I 1, 1 I 2"), 1, BOARD_RIGHT(1));
+    struct command c[5] = {add_role(0, 1), remove_role(0, 0), add_role(1, 2), give_rights(0, 1, BOARD_RIGHT(1)), add_role(1, 2)};
+    const uint64_t want[5] = {0, six(0, 3, 0), 13, 0, 0};
+    c[0].i_seniors = 1 << 0, c[2].i_seniors = c[4].i_seniors = 1 << 1;
+    runs("the first evening, four places", founding, c, 5, NULL, 4);
+    runs("the first evening, no place", founding, c, 5, NULL, 0);
+    b = runs("the first evening, five places", founding, c, 5, want, 5);
+    expect("the first evening, its board", memcmp(&b, &grown, sizeof b) != 0, false);
+    b = runs("the first evening, seven places", founding, c, 5, want, 7);
+    expect("the first evening, its board", memcmp(&b, &grown, sizeof b) != 0, false);
+    b = runs("its first two", founding, c, 2, want, 2);
+    becomes("its first two", &b, "0 I 1");
+    b = runs("no command", founding, c, 0, NULL, 0);
+    becomes("no command", &b, "");
+
+    /* the same evening again: 1 and 2 are there, and 1 has its right */
+    static const uint64_t again[5] = {4, 6 | 3ull << 40, 4, 0, 4};
+    b = runs("the evening again", grown, c, 5, again, 5);
+    expect("nothing is changed", memcmp(&b, &grown, sizeof b) != 0, false);
+
+    /* on W 1 is line manager of 3 until 2 is above 3, and 3 and 4 are in each other's way to 5 */
+    struct command d[4] = {edge(3, 0, 2, 3, 2), edge(3, 0, 2, 3, 1), edge(5, 4, 4, 5, 1), edge(3, 0, 2, 3, 3)};
+    const uint64_t on_w[4] = {9, 0, six(5, 2, 3), 9};
+    b = runs("W", with_rights(w, 4, ALL_RIGHTS), d, 4, on_w, 5);
+    about(&b);
+    manager(3, 0);
+
+    /* not sound: every command is answered 1, but the row comes first, and no command is no refusal */
+    static const uint64_t ones[5] = {1, 1, 1, 1, 1};
+    struct board unsound = grown;
+    unsound.manager[2] = 0;
+    b = runs("a wrong line manager", unsound, c, 5, ones, 6);
+    expect("it stays", memcmp(&b, &unsound, sizeof b) != 0, false);
+    runs("a wrong line manager, four places", unsound, c, 5, NULL, 4);
+    runs("a wrong line manager, no command", unsound, c, 0, NULL, 1);
+}
+
 int wrong_examples(const char *whose, const struct calls *of)
 {
     struct board p, w, l, founding, b;
@@ -422,6 +476,7 @@ int wrong_examples(const char *whose, const struct calls *of)
     offending(p, w);
     rights(p, w);
     file_with_rights(p);
+    evenings(founding, w);
 
     c = add_role(0, 63);
     c.i_seniors = 1;

@@ -435,5 +435,10 @@ uint8_t decide(const struct view *before, const struct command *c, struct view *
 uint8_t decide_on_sound(const struct view *before, const struct command *c)
 {
     static struct view after_board;
-    return first_refusal(1, before, c, &after_board);
+    return step_on_sound(before, c, &after_board);
+}
+
+uint8_t step_on_sound(const struct view *before, const struct command *c, struct view *after_board)
+{
+    return first_refusal(1, before, c, after_board);
 }

@@ -60,6 +60,7 @@ bool lacks_right(const struct view *v, const struct command *c); /* the actor, o
 /* The refusal number; `after` is the board afterwards where it is 0, and means nothing where it is not. */
 uint8_t decide(const struct view *before, const struct command *c, struct view *after);
 uint8_t decide_on_sound(const struct view *before, const struct command *c); /* the number alone: the drawings ask often */
+uint8_t step_on_sound(const struct view *before, const struct command *c, struct view *after); /* without stored values */
 
 /* why.c: why a role is out of scope, and which role of a command is the first to offend */
 enum { NOT_DERIVED = 1, IN_THE_WAY, ITSELF };
@@ -110,6 +111,9 @@ uint64_t answer_command(const struct opened *o, const struct command *c, uint8_t
 uint64_t answer_found(struct board *b);
 uint64_t answer_read(const struct opened *o, struct board *b);
 uint64_t answer_write(const struct view *v, uint8_t *out, size_t room, size_t at);
+/* `left` is the board that the run leaves, until another run; `before` itself where nothing is changed. */
+uint64_t answer_run(const struct view *before, const struct command *commands, size_t n, uint64_t *answers, size_t m,
+                    const struct view **left);
 
 /* examples.c: the scope document's examples; prints and counts those that go wrong */
 int wrong_examples(const char *whose, const struct calls *of);

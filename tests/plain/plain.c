@@ -286,7 +286,8 @@ static uint8_t after(struct board *b, const struct command *c)
     return manage(b->live, b->derives, b->derivers, b->manager) ? 0 : 9;
 }
 
-uint64_t plain_apply(struct board *b, const struct command *c)
+/* Kept whole, or what a command costs by itself would hang on there being runs. */
+__attribute__((noinline)) uint64_t plain_apply(struct board *b, const struct command *c)
 {
     struct board next;
     if (!sound(b)) return 1;
@@ -466,6 +467,14 @@ uint64_t plain_command(const uint8_t *file, size_t len, const struct command *c,
     if (refusal != 0) return refusal;
     size_t written = write_file(&b, out, room);
     return written != 0 ? answer(0, ASKED, written) : answer(12, IN_WRITING, 0);
+}
+
+/* Each command looks at the board that it is handed, as one that comes alone does. */
+uint64_t plain_run(struct board *b, const struct command *commands, size_t n, uint64_t *answers, size_t m)
+{
+    if (m < n) return answer(12, IN_WRITING, 0);
+    for (size_t k = 0; k < n; k++) answers[k] = plain_apply(b, &commands[k]);
+    return 0;
 }
 
 uint64_t plain_found(struct board *b)

@@ -10,6 +10,7 @@ use board::commands::step;
 use board::questions;
 use board::questions::Manager;
 use hierarchy::working::work_out;
+use runs::run_by_value;
 use sets::has;
 
 fn text(s: &[u8]) {
@@ -269,6 +270,36 @@ pub(crate) fn on_rights(name: &[u8], b: Board, c: Command) -> Board {
     number(c.role);
     the_rights(c.rights as u64);
     run(b, c)
+}
+
+// The numbers of the first n answers of a row, a space before each.
+fn numbers(answers: [u64; 64], n: usize) {
+    let mut k: usize = 0;
+    while k < 64 {
+        if k < n {
+            text(b" ");
+            io::print_decimal(1, answers[k] % 256);
+        }
+        k += 1;
+    }
+}
+
+// The first n of these commands in one run: their numbers, or the run's own refusal.
+pub(crate) fn evening(name: &[u8], b: Board, commands: [Command; 64], n: usize) -> Board {
+    text(name);
+    text(b": a run of ");
+    io::print_decimal(1, n as u64);
+    text(b": ");
+    let e = run_by_value(b, commands, n);
+    if e.number != 0 {
+        refused(e.number);
+        return e.board;
+    }
+    text(b"answers");
+    let answers = e.answers;
+    numbers(answers, n);
+    text(b"\n");
+    e.board
 }
 
 // A code that is no command's.

@@ -2,6 +2,7 @@
 // back. `stdout` has the same lines, worked out by hand from the documents.
 use boards::add_between;
 use boards::add_edge;
+use boards::add_role;
 use boards::change_edge;
 use boards::command;
 use boards::e;
@@ -10,6 +11,7 @@ use boards::give_rights;
 use boards::l;
 use boards::p;
 use boards::remove_edge;
+use boards::remove_role;
 use boards::take_rights;
 use boards::w;
 
@@ -212,6 +214,31 @@ fn using_rights() {
     lines::add_role(b"P, 3 alone with right 1", own, 1, 4, 0, 0b10);
 }
 
+// Request 6: commands in one run, each decided on the board that the one before it left. The done ones by themselves leave the same board;
+// a run that is longer than the row of answers is refused before any command is tried.
+fn an_evening() {
+    let b = p();
+    let mut commands = [command(0, 0, 0, 0, 0, 0); 64];
+    commands[0] = change_edge(0, 1, 3, 1);
+    commands[1] = change_edge(1, 1, 3, 1);
+    commands[2] = add_role(0, 4, 0, 0b1000);
+    commands[3] = add_role(0, 4, 0, 0b1000);
+    commands[4] = remove_role(0, 1);
+    commands[5] = change_edge(1, 1, 3, 2);
+    let late = lines::evening(b"P", b, commands, 6);
+    let opened = lines::on_edge(b"P", b, change_edge(1, 1, 3, 1));
+    let more = lines::add_role(b"P with 1 I 3", opened, 0, 4, 0, 0b1000);
+    let closed = lines::on_edge(b"P with 1 I 3 and 3 I 4", more, change_edge(1, 1, 3, 2));
+    lines::same(
+        b"P after the run is P with 3 I 4 after these three",
+        late,
+        closed,
+    );
+    lines::kind(b"P after the run", late, 1, 3);
+    let long = lines::evening(b"P", b, commands, 65);
+    lines::same(b"P after a run that is too long is P", long, b);
+}
+
 fn main() {
     questions_on_p();
     changes_on_p();
@@ -227,4 +254,5 @@ fn main() {
     handing_on();
     coming_and_going();
     using_rights();
+    an_evening();
 }
