@@ -5,8 +5,8 @@
  * from several threads are fine on different boards and buffers.
  *
  * Of a pointer it asks what C asks: that many bytes are there. Hand over no null pointer, not even with length 0. What a
- * call writes (`b`, `out`) may overlap nothing else that is handed over, and nobody else writes what is handed over, or
- * reads what is written, during the call.
+ * call writes (`b`, `out`, `answers`) may overlap nothing else that is handed over, and nobody else writes what is handed
+ * over, or reads what is written, during the call.
  *
  *     uint8_t file[BOARD_FILE], next[BOARD_FILE];
  *     size_t len = ...;                                            // a board file, read from somewhere
@@ -48,14 +48,14 @@ extern "C" {
  * the edge, stands already; 5 there is no such edge, or a part to be removed is missing; 13 the actor may not use a right
  * that the command needs or names; 6 out of the actor's scope; 7 some role would reach itself; 8 the new role would be
  * outside the actor's strict scope; 9 some role would have no administrator; 10 bad frame of the file; 11 bad record in
- * the file; 12 not enough room in `out`. The first that holds: of a command in this order, 13 after 5 and before 6; of a
- * file 10, 11, 7, 9. */
+ * the file; 12 not enough room in `out` or in `answers`. The first that holds: of a command in this order, 13 after 5
+ * and before 6; of a file 10, 11, 7, 9; a run has 12 alone, and in `answers` its commands' numbers. */
 #define BOARD_NUMBER(answer) ((uint32_t)((answer)&0xff))
 
 #define BOARD_PLACE(answer) ((uint32_t)((answer) >> 8 & 0xff))
 #define BOARD_PLACE_ASKED 0   /* the command or the question (and every answer with number 0) */
 #define BOARD_PLACE_FILE 1    /* the file handed in */
-#define BOARD_PLACE_WRITING 2 /* `out` is too short */
+#define BOARD_PLACE_WRITING 2 /* `out`, or a run's `answers`, is too short */
 
 /* Beside a refusal the value is 0, and BOARD_NO_MANAGER from board_manager. */
 #define BOARD_VALUE(answer) ((uint32_t)((answer) >> 16 & 0xffff))
