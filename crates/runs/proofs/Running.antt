@@ -6,8 +6,7 @@ use Prim.Native.Nat.{ℕ, suc, _≤_, _<_}
 use native.Mathlib.Decide.{ℕ-discrete}
 use native.Mathlib.Omega.{arith}
 use lib.ListN.{length, getD, set, take, drop, replicate, length-map, length-append}
-use lib.Seq.{length-take-le, length-front, take-suc, drop-cons, drop-append-seam, getD-append-seam, set-append-seam}
-use Rattle.hierarchy.specs.First.{First}
+use lib.Seq.{length-take-le, take-suc, drop-cons, drop-append-seam, getD-append-seam, set-append-seam}
 use Rattle.hierarchy.proofs.FirstLaws.{first-unique, hit, pass, none}
 use Rattle.board.specs.Boards.{SoundBoard}
 use Rattle.board.specs.Commands.{plain, refusals, Decided}
@@ -15,7 +14,6 @@ use Rattle.board.specs.declared.Board.{Board}
 use Rattle.board.specs.declared.Command.{Command}
 use Rattle.board.specs.declared.commands.Answer.{Answer}
 use Rattle.board.proofs.Settled.{decided-unique}
-use Rattle.board.proofs.Rules.{first-done}
 use Rattle.runs.specs.Packing.{answerOf}
 use Rattle.runs.specs.Runs.{Ran, Ran.over, Ran.given, rowAfter, runRefusals, Went, RanBy, InParts, InItsPlace}
 
@@ -82,19 +80,11 @@ ran-parts (c ∷ first) (given {a = a} d r) =
 abbrev packed : List Answer → List ℕ
 packed = map (λ (a : Answer). answerOf a 0 0)
 
--- places beyond the run stay,
+-- places beyond the run stay
 pub beyond-stays : {b last : Board} {commands : List Command} {entry exit : List ℕ} → Went b commands entry exit last
     → drop (length commands) exit ≡ drop (length commands) entry
 beyond-stays {commands = commands} {entry} {exit} w = subst (λ (k : ℕ). drop k exit ≡ drop k entry) (ran-length (w .ran))
     (ap₂ (λ (k : ℕ) (l : List ℕ). drop k l) (sym (length-map (w .answers) (λ a. answerOf a 0 0))) (w .row) ∙ drop-append-seam (packed (w .answers)) (drop (length (w .answers)) entry))
-
--- no place comes or goes,
-pub row-length : {b last : Board} {commands : List Command} {entry exit : List ℕ} → Went b commands entry exit last → length commands ≤ length entry
-    → length exit ≡ length entry
-row-length {entry = entry} w enough =
-    let n = length (w .answers) in
-    ap length (w .row) ∙ length-front entry (packed (w .answers)) n
-    (length-map (w .answers) (λ a. answerOf a 0 0) ∙ sym (length-take-le n entry (subst (λ (k : ℕ). k ≤ length entry) (sym (ran-length (w .ran))) enough)))
 
 -- the answer after some others is in the place that they leave free,
 packed-at : (early : List Answer) (a : Answer) (late : List Answer) (beyond : List ℕ) → packed (early ++ a ∷ late) ++ beyond ≡ packed early ++ answerOf a 0 0 ∷ (packed late ++ beyond)

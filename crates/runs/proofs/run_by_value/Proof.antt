@@ -1,14 +1,8 @@
 use Prim.Native.Nat.{_-_}
-use native.Mathlib.Omega.{arith}
 use borrow.Author.Needs.{needs}
 use Rattle.runs.proofs.Turns.{nobody, evening-too-long, Halfway, halfway-begins, halfway-on, halfway-over}
 use Rattle.runs.proofs.run_by_value.Statement.{statement}
 use Rattle.runs.proofs.run_by_value.Tie as tie
-use Rattle.runs.proofs.run_by_value.Reads as reads
-use Rattle.runs.proofs.run_by_value.Lts as lts
-use Rattle.board.proofs.commands.step.Reads as step-reads
-use Rattle.runs.proofs.blank.Reads as blank-reads
-use Rattle.runs.proofs.packing.answered.Reads as answered-reads
 
 abbrev Inv-loop : tie.InvT-loop
 Inv-loop n commands answers₀ last₀ k₀ answers last k = Halfway last₀ commands n answers last k
