@@ -87,7 +87,8 @@ extern "C" {
  * rights[r]: the rights that r holds, BOARD_RIGHT of each. A byte above BOARD_RIGHTS_ALL, and a right at a role that isn't
  * live, is not sound. A role may use the rights that it holds, and those of the roles that it derives.
  *
- * After a call on it that answered 0 a board is sound, and a program may read these questions' answers off it:
+ * After a call on it that answered 0 a board is sound (a run answers 0 on any board: after one it is sound where it was
+ * before, and so unless answers[0] is 1), and a program may read these questions' answers off it:
  *     does x derive y           derives[x] >> y & 1
  *     is r in the scope of a    (derives[a] >> r & 1) && (derivers[r] & ~(derives[a] | derivers[a])) == 0
  *     who is in a's way to r    where a derives r, the lowest role of derivers[r] & ~(derives[a] | derivers[a])
@@ -149,7 +150,8 @@ uint64_t board_apply(struct board *b, const struct command *c);
 uint64_t board_run(struct board *b, const struct command *commands, size_t n, uint64_t *answers, size_t m);
 
 /* One command on the board in a file. Done puts the new file at the start of `out` (BOARD_FILE bytes are always enough),
- * and its length is the value; the rest of `out` stays. A refusal leaves all of `out` as it was; a 6 has the same. */
+ * and its length is the value; the rest of `out` stays. A refusal leaves all of `out` as it was; a 6 has what
+ * board_apply's has. */
 uint64_t board_command(const uint8_t *file, size_t file_len, const struct command *c, uint8_t *out, size_t out_len);
 
 /* ---- questions about the board in a file: each call reads it anew */

@@ -42,7 +42,7 @@ use Rattle.board.proofs.Trying.{role-lt, junior-lt}
 use Rattle.board.proofs.Rules.{stable, Passed, first-done, first-without, first-next}
 use Rattle.board.proofs.Settled.{board-stable, one-board, decided-unique, derives-unique, scope-unique, manager-answer-unique, steps-unique}
 use Rattle.board.proofs.Viewing.{derives-kept, derivers-kept, manager-kept, scope-kept, steps-kept}
-use Rattle.runs.specs.Runs.{Ran, Ran.over, Ran.given, runRefusals, Went, RunAnswer, InParts, InItsPlace}
+use Rattle.runs.specs.Runs.{Ran, Ran.over, Ran.given, runRefusals, Went, RanBy, InParts, InItsPlace}
 use Rattle.runs.proofs.Running.{run-unique, ran-one, ran-join, ran-parts, beyond-stays, in-its-place, without-refused, unsound-run}
 use Rattle.boardfile.specs.declared.commands.Place.{Place}
 use Rattle.boardfile.specs.Files.{fileOf}
@@ -76,17 +76,23 @@ command-ends {b} {board} {c} {answer} d = dite (ℕ-discrete (answer .number) 0)
     (λ e. inl (e, d .done e))
     (λ n. inr (refused-among (commandRefusals b c) (answer .number) (d .numbered) n, d .refused n))
 
--- a run (request 6): with 12, and board and row are as they were; or each of its commands was given,
-pub run-ends : {b board : Board} {commands : List Command} {entry exit : List ℕ} {number : ℕ} → RunAnswer b commands entry exit number board
-    → ((number ≡ 0) × Went b commands entry exit board) ⊎ ((number ≡ 12) × (board ≡ b) × (exit ≡ entry))
-run-ends {commands = commands} {entry} {number = number} r = dite (ℕ-discrete number 0)
-    (λ e. inl (e, r .done e))
-    (λ n. inr (⊎-elim (λ e. e) absurd (refused-among (runRefusals (length commands) (length entry)) number (r .numbered) n), r .refused n .0, r .refused n .1))
+-- the only row of a table, or done
+first-only : {k : ℕ} {P : Type 0} {n : ℕ} → First ((k, P) ∷ []) n → ((n ≡ k) × P) ⊎ (n ≡ 0)
+unfolding First
+first-only f = ⊎-map (λ p. (p .1, p .0)) (λ p. p .1) f
 
--- and ended as by itself. The row is the one thing lent that a refused command writes to, there only to its own place (`in-its-place`): left out, all else
--- is the same. The places beyond the run stay.
+-- a run (request 6), on what is lent or by value: with 12, where there are fewer places than commands, and board and row are as they were; or each of its commands was given,
+pub run-ends : {b board : Board} {commands : List Command} {entry exit : List ℕ} (n places : ℕ) {number : ℕ} → RanBy (runRefusals n places) b commands entry exit number board
+    → ((number ≡ 0) × Went b commands entry exit board) ⊎ ((number ≡ 12) × (places < n) × (board ≡ b) × (exit ≡ entry))
+run-ends n places r = ⊎-elim
+    (λ p. let k = r .refused (λ z. absurd (omega (arith, p .0, z))) in inr (p .0, p .1, k .0, k .1))
+    (λ e. inl (e, r .done e))
+    (first-only (r .numbered))
+
+-- and ended as by itself. A refused command leaves the board; of all that is lent it writes to the row alone, and there to its own place: without that
+-- command the other answers and the last board are the same. The places beyond the run stay.
 module _ {b board : Board} (first : List Command) {c : Command} {rest : List Command} {entry exit : List ℕ} (w : Went b (first ++ c ∷ rest) entry exit board) where
-  pub run-command-ends : (p : InItsPlace b first c rest exit board)
+  pub run-command-ends : (p : InItsPlace b first c rest entry exit board)
       × (((p .answer .number ≡ 0) × Made SoundBoard (p .before) c (p .after))
       ⊎ (Among (p .answer .number) (commandRefusals (p .before) c) × (p .after ≡ p .before) × Ran b (first ++ rest) (p .early ++ p .late) board))
   run-command-ends =
@@ -140,14 +146,15 @@ file-command-ends {entry = entry} {exit = exit} {len = len} (done {b = b} r d w)
     inl (refl, (b, r, subst₂ (λ (t : Tables) (h : List ℕ). Placed (fileOf t h) entry 0 exit len) (made .tables-are) (made .rights-are) (w .done refl)))
 
 -- ---- demand 2: the answer is the one that document 01 states, and no other. What it states is `Decided`, `DerivesAnswer`, `ScopeAnswer`,
--- `ManagerAnswer` and `StepsAnswer` on a board, and `ReadAnswer`, `WriteAnswer`, `StretchOf`, the four `..OnFile` and `CommandAnswer` on files.
+-- `ManagerAnswer` and `StepsAnswer` on a board, and `ReadAnswer`, `WriteAnswer`, `StretchOf`, the four `..OnFile` and `CommandAnswer` on files; of a run (request 6)
+-- it is `RanBy`.
 
 pub one-outcome : {b x y : Board} {c : Command} {m n : Answer} → Decided b c m x → Decided b c n y → (m ≡ n) × (x ≡ y)
 one-outcome = decided-unique
 
 -- a run has one outcome: its number, every place of the row, and the board. It is what its commands give one by one:
-pub one-run : {b x y : Board} {commands : List Command} {entry exit other : List ℕ} {m n : ℕ} → RunAnswer b commands entry exit m x → RunAnswer b commands entry other n y
-    → (m ≡ n) × (exit ≡ other) × (x ≡ y)
+pub one-run : {rules : List (ℕ × Type 0)} {b x y : Board} {commands : List Command} {entry exit other : List ℕ} {m n : ℕ}
+    → RanBy rules b commands entry exit m x → RanBy rules b commands entry other n y → (m ≡ n) × (exit ≡ other) × (x ≡ y)
 one-run = run-unique
 
 -- the run of one command is the command, and a run, cut anywhere, is the run of its first part and from there the run of the other
@@ -364,7 +371,8 @@ ran-reached : {b last : Board} {commands : List Command} {answers : List Answer}
 ran-reached r over = r
 ran-reached r (given d rest) = ran-reached (command r d) rest
 
-pub run-reached : {b board : Board} {commands : List Command} {entry exit : List ℕ} {number : ℕ} → Reached b → RunAnswer b commands entry exit number board → Reached board
+pub run-reached : {rules : List (ℕ × Type 0)} {b board : Board} {commands : List Command} {entry exit : List ℕ} {number : ℕ} → Reached b
+    → RanBy rules b commands entry exit number board → Reached board
 run-reached {number = number} r a = dite (ℕ-discrete number 0) (λ e. ran-reached r (a .done e .ran)) (λ n. subst Reached (sym (a .refused n .0)) r)
 
 module _ {b : Board} (reached : Reached b) where

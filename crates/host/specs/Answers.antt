@@ -1,5 +1,6 @@
 -- What the functions for programs in C answer: one number that holds the refusal number, the place where it arose, and a value, and by
--- request 3 who offends and why. These parts are `board`'s answer and `boardfile`'s.
+-- request 3 who offends and why. These parts are the answers of `board`, `runs` and `boardfile`; `runs` says how
+-- they are packed.
 use mathlib.Core.Path.{_≡_}
 use mathlib.Core.Bool.{Bool, cond, _||_}
 use mathlib.Core.List.{List}

@@ -1,6 +1,6 @@
 // The board for programs in C. `host/board.h` declares these functions and says how an answer is taken apart.
 //
-// What is decided is decided by `board` and `boardfile`; here an answer is packed into one number. Nothing is asked of a caller but that
+// What is decided is decided by `board`, `runs` and `boardfile`; here an answer is packed into one number. Nothing is asked of a caller but that
 // the pointers are good.
 mod answers;
 

@@ -92,7 +92,7 @@ packed-at early a late beyond = ap (λ (l : List ℕ). l ++ beyond) (map-append 
 
 -- and so each command's answer is in its own
 placed : {b between last : Board} {first : List Command} {c : Command} {rest : List Command} {early late : List Answer} {exit : List ℕ} (entry : List ℕ)
-    → Ran b first early between → Ran between (c ∷ rest) late last → exit ≡ rowAfter (early ++ late) entry → InItsPlace b first c rest exit last
+    → Ran b first early between → Ran between (c ∷ rest) late last → exit ≡ rowAfter (early ++ late) entry → InItsPlace b first c rest entry exit last
 placed {early = early} entry r (given {a = a} {answers = answers} d s) e = record {
   before = _;
   after = _;
@@ -102,6 +102,7 @@ placed {early = early} entry r (given {a = a} {answers = answers} d s) e = recor
   begun = r;
   decided = d;
   ended = s;
+  row = e;
   place = ap₂ (λ (l : List ℕ) (k : ℕ). getD l k 0) (e ∙ packed-at early a answers beyond) (sym (ran-length r) ∙ sym (length-map early (λ a. answerOf a 0 0)))
       ∙ getD-append-seam (packed early) (answerOf a 0 0) (packed answers ++ beyond) 0;
 }
@@ -110,12 +111,12 @@ placed {early = early} entry r (given {a = a} {answers = answers} d s) e = recor
     beyond = drop (length (early ++ a ∷ answers)) entry
 
 pub in-its-place : {b last : Board} (first : List Command) {c : Command} {rest : List Command} {entry exit : List ℕ} → Went b (first ++ c ∷ rest) entry exit last
-    → InItsPlace b first c rest exit last
+    → InItsPlace b first c rest entry exit last
 in-its-place first {entry = entry} w =
     let p = ran-parts first (w .ran) in placed entry (p .begun) (p .ended) (w .row ∙ ap (λ (l : List Answer). rowAfter l entry) (p .in-a-row))
 
 -- a command that is refused writes to nothing but its place: left out, the others' answers and the last board are the same
-pub without-refused : {b last : Board} {first : List Command} {c : Command} {rest : List Command} {exit : List ℕ} (p : InItsPlace b first c rest exit last)
+pub without-refused : {b last : Board} {first : List Command} {c : Command} {rest : List Command} {entry exit : List ℕ} (p : InItsPlace b first c rest entry exit last)
     → p .answer .number ≢ 0 → Ran b (first ++ rest) (p .early ++ p .late) last
 without-refused {last = last} {rest = rest} p z = ran-join (p .begun) (subst (λ (h : Board). Ran h rest (p .late) last) (p .decided .refused z) (p .ended))
 

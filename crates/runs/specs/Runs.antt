@@ -18,7 +18,7 @@ pub data Ran : Board → List Command → List Answer → Board → Type 0 where
   given : {b next last : Board} {c : Command} {rest : List Command} {a : Answer} {answers : List Answer}
       → Decided b c a next → Ran next rest answers last → Ran b (c ∷ rest) (a ∷ answers) last
 
--- the row afterwards: each answer whole in its command's place, with place and value 0; the places beyond the run as they were
+-- the row afterwards: each answer whole, its own place and value 0, at its command's place of the row; the places beyond the run as they were
 abbrev pub rowAfter : List Answer → List ℕ → List ℕ
 rowAfter answers entry = map (λ (a : Answer). answerOf a 0 0) answers ++ drop (length answers) entry
 
@@ -57,9 +57,9 @@ pub record InParts (b : Board) (first rest : List Command) (answers : List Answe
   pub begun : Ran b first early between
   pub ended : Ran between rest late last
 
--- a command c of a run, after the commands `first`: it is decided on the board that they leave, its answer is in its own place of the row, and
--- the run goes on from the board that it leaves
-pub record InItsPlace (b : Board) (first : List Command) (c : Command) (rest : List Command) (exit : List ℕ) (last : Board) : Type 0 where
+-- a command c of a run, after the commands `first`: it is decided on the board that they leave, its answer is in its own place of the row, between
+-- theirs and those of the rest, and the run goes on from the board that it leaves
+pub record InItsPlace (b : Board) (first : List Command) (c : Command) (rest : List Command) (entry exit : List ℕ) (last : Board) : Type 0 where
   pub before : Board
   pub after : Board
   pub answer : Answer
@@ -68,4 +68,5 @@ pub record InItsPlace (b : Board) (first : List Command) (c : Command) (rest : L
   pub begun : Ran b first early before
   pub decided : Decided before c answer after
   pub ended : Ran after rest late last
+  pub row : exit ≡ rowAfter (early ++ answer ∷ late) entry
   pub place : getD exit (length first) 0 ≡ answerOf answer 0 0

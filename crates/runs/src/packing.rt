@@ -24,7 +24,7 @@ pub fn answered_at(a: Answer, place: u8, value: u16) -> u64
     packed(a.number, place, value) + reason(a.who, a.cause, a.way)
 }
 
-// The same of a command on a board that is lent or handed in, where both are 0.
+// The same where place and value are 0: of a command on a board that is lent or handed in.
 pub fn answered(a: Answer) -> u64
     ensures { λ r. ⌜ r ≡ answerOf a 0 0 ⌝ }
 {
