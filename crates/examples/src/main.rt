@@ -1,5 +1,6 @@
 // Runs every example of document 01, and those of the requests, through the board's own functions and writes a line for each: what was asked, then what came
 // back. `stdout` has the same lines, worked out by hand from the documents.
+use board::Command;
 use boards::add_between;
 use boards::add_edge;
 use boards::add_role;
@@ -214,10 +215,7 @@ fn using_rights() {
     lines::add_role(b"P, 3 alone with right 1", own, 1, 4, 0, 0b10);
 }
 
-// Request 6: commands in one run, each decided on the board that the one before it left. The done ones by themselves leave the same board;
-// a run that is longer than the row of answers is refused before any command is tried.
-fn an_evening() {
-    let b = p();
+fn six_commands() -> [Command; 64] {
     let mut commands = [command(0, 0, 0, 0, 0, 0); 64];
     commands[0] = change_edge(0, 1, 3, 1);
     commands[1] = change_edge(1, 1, 3, 1);
@@ -225,6 +223,14 @@ fn an_evening() {
     commands[3] = add_role(0, 4, 0, 0b1000);
     commands[4] = remove_role(0, 1);
     commands[5] = change_edge(1, 1, 3, 2);
+    commands
+}
+
+// Request 6: commands in one run, each decided on the board that the one before it left. The done ones by themselves leave the same board;
+// a run that is longer than the row of answers is refused before any command is tried.
+fn an_evening() {
+    let b = p();
+    let commands = six_commands();
     let late = lines::evening(b"P", b, commands, 6);
     let opened = lines::on_edge(b"P", b, change_edge(1, 1, 3, 1));
     let more = lines::add_role(b"P with 1 I 3", opened, 0, 4, 0, 0b1000);
