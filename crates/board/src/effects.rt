@@ -5,8 +5,11 @@ ghost use mathlib.Core.Bool.{_||_};
 ghost use lib.Dec.{eqb};
 ghost use Rattle.sets.specs.Sets.{bit, setOf};
 ghost use Rattle.hierarchy.specs.Tables.{tables, IsTable};
+ghost use Rattle.board.specs.Boards.{tablesOf};
 ghost use Rattle.board.specs.Effects.{lives, tableAfter, after};
+use crate::Board;
 use crate::Command;
+use crate::shape::whole;
 use crate::tables::enter;
 use crate::tables::leave;
 use crate::tables::row_of;
@@ -79,4 +82,23 @@ pub(crate) fn change(live: u64, i: &mut [u64; 64], a: &mut [u64; 64], c: Command
     edit(i, c, c.i_seniors, c.i_juniors, has_part(c.kind, 1));
     edit(a, c, c.a_seniors, c.a_juniors, has_part(c.kind, 2));
     living(live, c)
+}
+
+// The tables that a command would leave, whether or not it is refused.
+pub struct Left {
+    pub live: u64,
+    pub i: [u64; 64],
+    pub a: [u64; 64],
+}
+
+// What a refusal of the tables afterwards, 7, 8 or 9, is about: a caller that wants to say more of it looks there.
+pub fn effect(b: Board, c: Command) -> Left
+    ensures { λ r. ⌜ tables (r .live) (r .i) (r .a) ≡ after (tablesOf b) c ⌝ }
+{
+    let mut i = b.i;
+    let mut a = b.a;
+    whole(i);
+    whole(a);
+    let live = change(b.live, &mut i, &mut a, c);
+    Left { live, i, a }
 }

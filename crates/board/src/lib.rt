@@ -7,7 +7,7 @@ ghost use Rattle.board.specs.Boards.{foundingBoard};
 
 pub mod checks;
 pub mod commands;
-mod effects;
+pub mod effects;
 pub mod kept;
 pub mod lent;
 pub mod questions;
