@@ -1,0 +1,3 @@
+-- The laws that the proofs of `boardchange` cite.
+pub mod Giving
+pub mod Lending

@@ -1,0 +1,2 @@
+-- The commands of a text, and what giving them to a board leaves.
+pub mod Texts

@@ -1,0 +1,53 @@
+// The lock of a board: a file beside it that one change makes and all others find. Nobody but its maker removes it.
+use crate::lines::complain;
+use crate::system::nap;
+use libc::EEXIST;
+
+// how long a change waits for another, in hundredths of a second
+const PATIENCE: u32 = 500;
+
+// Makes the lock, and waits where another change has it. Answers a descriptor, or a number below 0 where it could not be made.
+fn taken(lock: &[u8]) -> i32 {
+    let mut left = PATIENCE;
+    let mut fd = os::create(lock);
+    while left > 0 {
+        if fd >= 0 || os::errno() != EEXIST {
+            return fd;
+        }
+        nap();
+        fd = os::create(lock);
+        left -= 1;
+    }
+    fd
+}
+
+// The lock goes, and only then its descriptor: while the file stands, whoever looks finds that somebody has it open.
+pub(crate) fn give_up(fd: i32, lock: &[u8]) {
+    if os::unlink(lock) != 0 {
+        os::fail(lock);
+    }
+    libc::close(fd);
+}
+
+// Makes the lock, or says why not. A descriptor below 3 is a standard stream that was closed: what is said there would go into the board.
+pub(crate) fn take(lock: &[u8]) -> i32 {
+    let fd = taken(lock);
+    if fd < 0 {
+        if os::errno() == EEXIST {
+            complain(
+                b"busy: another change holds ",
+                lock,
+                b"; if none is under way, one died and left it there: remove it, or use ./change, which does",
+            );
+            return -1;
+        }
+        os::fail(lock);
+        return -1;
+    }
+    if fd < 3 {
+        give_up(fd, lock);
+        complain(b"boardchange: ", b"a standard stream is closed", b"");
+        return -1;
+    }
+    fd
+}

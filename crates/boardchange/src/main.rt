@@ -1,0 +1,292 @@
+// Changes the board in a file, or refuses to, in one go:
+//
+//     boardchange FILE COMMAND..      one command
+//     boardchange FILE                the commands on standard input, one a line
+//     boardchange FILE found          makes FILE, with the founding board
+//
+// It answers each command on standard output, with 'done' or with 'refused', the number and why. Nothing there means that the file is
+// as it was, for a reason that is on standard error.
+//
+// Two at once: FILE.lock is made before FILE is read, and only where there is no such file. The new board is written there, reaches the
+// disk, and FILE.lock then takes FILE's name. So whoever reads FILE to decide on it is alone until it has decided, and FILE is at any
+// moment a whole board file. Nothing is said before that, so a 'done' stands for a change that is on the disk.
+mod disk;
+mod given;
+mod input;
+mod lines;
+mod lock;
+mod paths;
+mod reasons;
+mod system;
+
+use board::Board;
+use disk::load;
+use disk::read_whole;
+use disk::store;
+use disk::sync_folder;
+use given::given;
+use input::INPUT;
+use input::gather;
+use libc::ENOENT;
+use libc::STDIN_FILENO;
+use lines::complain;
+use lines::put;
+use lines::put_quoted;
+use lines::say;
+use lock::give_up;
+use lock::take;
+use paths::is_link;
+use paths::put_lock;
+use reasons::put_refused;
+
+// The new board takes the old one's place: it goes into the lock, down to the disk, and the lock takes the file's name. Answers whether it
+// did; where not, the lock is gone and the file as it was.
+fn replace(name: &[u8], lock: &[u8], fd: i32, b: Board) -> bool {
+    if !store(fd, b) {
+        os::fail(lock);
+        give_up(fd, lock);
+        return false;
+    }
+    if os::rename(lock, name) != 0 {
+        os::fail(name);
+        give_up(fd, lock);
+        return false;
+    }
+    libc::close(fd);
+    if !sync_folder(name) {
+        os::fail(name);
+        complain(
+            b"boardchange: ",
+            name,
+            b" is changed, but a loss of power may undo it",
+        );
+    }
+    true
+}
+
+// What is wrong with a board file.
+fn put_fault(out: &mut [u8], at: usize, number: u8) -> usize {
+    if number == 10 {
+        return put(out, at, b"this is no board file: its frame is broken");
+    }
+    if number == 11 {
+        return put(out, at, b"the board file has a bad record");
+    }
+    if number == 7 {
+        return put(out, at, b"in the board file some role reaches itself");
+    }
+    put(out, at, b"in the board file some role has no administrator")
+}
+
+fn say_file_refused(number: u8) {
+    let mut out = [0u8; 512];
+    let at = put_refused(&mut out, 0, number as u64);
+    let at = put_fault(&mut out, at, number);
+    say(&mut out, at);
+}
+
+// Decides the commands of a text on the board in the file, and leaves the new board there.
+fn change(name: &[u8], lock: &[u8], text: &[u8], many: bool) {
+    let fd = take(lock);
+    if fd < 0 {
+        return;
+    }
+    let was = load(name, fd);
+    if !was.fine {
+        give_up(fd, lock);
+        return;
+    }
+    if was.number != 0 {
+        give_up(fd, lock);
+        say_file_refused(was.number);
+        return;
+    }
+    let before = was.board;
+    let g = given(before, text, many, false);
+    if !g.done {
+        give_up(fd, lock);
+        given(before, text, many, true);
+        return;
+    }
+    if replace(name, lock, fd, g.board) {
+        // the same again, aloud: the answers are those of the same commands on the same board
+        given(before, text, many, true);
+    }
+}
+
+// Makes the file, with the founding board, where there is none of that name.
+fn found(name: &[u8], lock: &[u8]) {
+    let fd = take(lock);
+    if fd < 0 {
+        return;
+    }
+    let there = os::open_read(name);
+    if there >= 0 {
+        libc::close(there);
+        give_up(fd, lock);
+        complain(
+            b"boardchange: ",
+            name,
+            b" is there already; it stays as it is",
+        );
+        return;
+    }
+    if os::errno() != ENOENT {
+        os::fail(name);
+        give_up(fd, lock);
+        return;
+    }
+    if replace(name, lock, fd, Board::founding()) {
+        let mut out = [0u8; 16];
+        let at = put(&mut out, 0, b"done");
+        say(&mut out, at);
+    }
+}
+
+fn say_too_long() {
+    let mut out = [0u8; 512];
+    let at = put_refused(&mut out, 0, 2);
+    let at = put(
+        &mut out,
+        at,
+        b"the input has more than 60000 bytes; nothing of it was tried",
+    );
+    say(&mut out, at);
+}
+
+// The commands on standard input. They are read before the lock is made: who types them slowly keeps nobody waiting.
+fn change_by_input(name: &[u8], lock: &[u8]) {
+    let mut space = [0u8; INPUT + 1];
+    let got = read_whole(STDIN_FILENO, &mut space);
+    let n = got.n;
+    if !got.fine {
+        os::fail(b"standard input");
+        return;
+    }
+    if n > INPUT {
+        say_too_long();
+        return;
+    }
+    change(name, lock, &space[0..n], true);
+}
+
+fn say_no_word(k: usize) {
+    let mut out = [0u8; 512];
+    let at = put_refused(&mut out, 0, 2);
+    let mut text = io::buffer();
+    let n = os::arg(k, &mut text);
+    let at = put_quoted(&mut out, at, &text[..n]);
+    let at = put(
+        &mut out,
+        at,
+        b" is no word: it is empty, too long, or has a blank in it",
+    );
+    say(&mut out, at);
+}
+
+// The command of the arguments.
+fn change_by_words(name: &[u8], lock: &[u8]) {
+    let mut space = io::buffer();
+    let g = gather(&mut space);
+    if g.wrong != 0 {
+        say_no_word(g.wrong);
+        return;
+    }
+    let n = g.n;
+    change(name, lock, &space[0..n], false);
+}
+
+fn asks_to_found() -> bool {
+    let mut text = [0u8; 8];
+    let n = os::arg(2, &mut text);
+    check::same(&text[..n], b"found")
+}
+
+fn act(name: &[u8], lock: &[u8]) {
+    let count = os::arg_count();
+    if count == 2 {
+        change_by_input(name, lock);
+        return;
+    }
+    if count == 3 && asks_to_found() {
+        found(name, lock);
+        return;
+    }
+    change_by_words(name, lock);
+}
+
+// The same, with the lock's name at the start of a buffer.
+fn act_beside(name: &[u8], lock: &[u8; 4096], k: usize) {
+    let lock: &[u8] = lock;
+    if k <= lock.len() {
+        act(name, &lock[0..k]);
+    }
+}
+
+// The same, with the lock's name from that of the file.
+fn act_on(name: &[u8]) {
+    if name.len() == 0 {
+        complain(b"boardchange: ", b"FILE has no name", b"");
+        return;
+    }
+    if is_link(1) {
+        complain(
+            b"boardchange: ",
+            name,
+            b" is a symbolic link; name the file itself: two names would be two locks",
+        );
+        return;
+    }
+    let mut lock = io::buffer();
+    let n = os::arg(1, &mut lock);
+    let k = put_lock(&mut lock, n);
+    if k == 0 {
+        complain(b"boardchange: ", name, b": too long a name");
+        return;
+    }
+    act_beside(name, &lock, k);
+}
+
+fn usage() {
+    complain(
+        b"usage: boardchange FILE ",
+        b"ACTOR add-role ROLE [a-seniors SET] [i-seniors SET] [a-juniors SET] [i-juniors SET]",
+        b"",
+    );
+    complain(b"       boardchange FILE ", b"ACTOR remove-role ROLE", b"");
+    complain(
+        b"       boardchange FILE ",
+        b"ACTOR add-edge | remove-edge | change-edge SENIOR JUNIOR KIND",
+        b"",
+    );
+    complain(
+        b"       boardchange FILE ",
+        b"ACTOR give-rights | take-rights ROLE RIGHTS",
+        b"",
+    );
+    complain(b"       boardchange FILE ", b"found", b"");
+    complain(
+        b"       boardchange FILE ",
+        b"   with such commands on standard input, one a line",
+        b"",
+    );
+    complain(
+        b"SET is roles: 1,2,5. ",
+        b"KIND is I, A or IA. RIGHTS is all, or names of commands: add-role,add-edge.",
+        b"",
+    );
+}
+
+fn main() {
+    if os::arg_count() < 2 {
+        usage();
+        return;
+    }
+    let mut name = io::buffer();
+    let n = os::arg(1, &mut name);
+    if os::errno() != 0 {
+        os::fail(b"FILE");
+        return;
+    }
+    act_on(&name[..n]);
+}
