@@ -3,6 +3,8 @@
 ghost use Prim.Native.Nat.{_≤_};
 use libc::STDERR_FILENO;
 use libc::STDOUT_FILENO;
+use wording::pieces::NEWLINE;
+use wording::pieces::piece_end;
 
 // Puts a text into the buffer from a place on, and answers where it ends.
 pub(crate) fn put(out: &mut [u8], at: usize, text: &[u8]) -> usize {
@@ -27,11 +29,85 @@ pub(crate) fn put_number(out: &mut [u8], at: usize, n: u64) -> usize {
     put(out, at, &digits[..k])
 }
 
-// A role, after some words.
-pub(crate) fn put_role(out: &mut [u8], at: usize, words: &[u8], role: u64) -> usize {
-    let at = put(out, at, words);
-    let at = put(out, at, b"role ");
-    put_number(out, at, role)
+fn put_byte(out: &mut [u8], at: usize, b: u8) -> usize {
+    if at < out.len() {
+        out[at] = b;
+        return at + 1;
+    }
+    at
+}
+
+// The four numbers of a form, in the order in which it has places for them.
+pub(crate) struct Numbers {
+    pub(crate) first: u64,
+    pub(crate) second: u64,
+    pub(crate) third: u64,
+    pub(crate) fourth: u64,
+}
+
+// A byte of a form: '@' is a place for a number.
+fn put_mark(out: &mut [u8], at: usize, b: u8, n: Numbers) -> usize {
+    if b == b'@' {
+        return put_number(out, at, n.first);
+    }
+    put_byte(out, at, b)
+}
+
+// What is left of the numbers after a byte of a form.
+fn after(b: u8, n: Numbers) -> Numbers {
+    if b == b'@' {
+        return Numbers {
+            first: n.second,
+            second: n.third,
+            third: n.fourth,
+            fourth: 0,
+        };
+    }
+    n
+}
+
+// Puts a form into the buffer, with its numbers in their places.
+pub(crate) fn put_form(out: &mut [u8], at: usize, form: &[u8], numbers: Numbers) -> usize {
+    let mut left = numbers;
+    let mut end = at;
+    let mut k: usize = 0;
+    while k < form.len() {
+        let b = form[k];
+        end = put_mark(out, end, b, left);
+        left = after(b, left);
+        k += 1;
+    }
+    end
+}
+
+// The line at a place of a text, counted from 0; nothing past the last.
+fn line_at(text: &[u8], k: usize) -> &[u8] {
+    let n = text.len();
+    let mut left = k;
+    let mut from: usize = 0;
+    while from <= n {
+        let end = piece_end(text, from, NEWLINE);
+        if left == 0 {
+            return &text[from..end];
+        }
+        left -= 1;
+        from = end + 1;
+    }
+    &text[0..0]
+}
+
+pub(crate) fn put_line(out: &mut [u8], at: usize, text: &[u8], k: usize) -> usize {
+    put(out, at, line_at(text, k))
+}
+
+pub(crate) fn put_line_form(
+    out: &mut [u8],
+    at: usize,
+    text: &[u8],
+    k: usize,
+    numbers: Numbers,
+) -> usize {
+    put_form(out, at, line_at(text, k), numbers)
 }
 
 // A byte as it may be shown: a text that somebody typed must not end our line.
@@ -83,11 +159,10 @@ pub(crate) fn say(out: &mut [u8], n: usize) {
     write_line(STDOUT_FILENO, out, n);
 }
 
-// A line on standard error: what is the matter with a file of this name.
-pub(crate) fn complain(before: &[u8], name: &[u8], after: &[u8]) {
+// A line on standard error: a name, and what is the matter with it.
+pub(crate) fn complain(name: &[u8], what: &[u8]) {
     let mut out = [0u8; 4608];
-    let n = put(&mut out, 0, before);
-    let n = put(&mut out, n, name);
-    let n = put(&mut out, n, after);
+    let n = put(&mut out, 0, name);
+    let n = put(&mut out, n, what);
     write_line(STDERR_FILENO, &mut out, n);
 }

@@ -29,24 +29,29 @@ pub(crate) fn give_up(fd: i32, lock: &[u8]) {
     libc::close(fd);
 }
 
+// Why there is no lock.
+fn say_untaken(lock: &[u8]) {
+    if os::errno() == EEXIST {
+        complain(b"busy: ", lock);
+        complain(
+            lock,
+            b": another change holds this lock. If none is under way, one died and left it: remove it, or use ./change, which does",
+        );
+        return;
+    }
+    os::fail(lock);
+}
+
 // Makes the lock, or says why not. A descriptor below 3 is a standard stream that was closed: what is said there would go into the board.
 pub(crate) fn take(lock: &[u8]) -> i32 {
     let fd = taken(lock);
     if fd < 0 {
-        if os::errno() == EEXIST {
-            complain(
-                b"busy: another change holds ",
-                lock,
-                b"; if none is under way, one died and left it there: remove it, or use ./change, which does",
-            );
-            return -1;
-        }
-        os::fail(lock);
+        say_untaken(lock);
         return -1;
     }
     if fd < 3 {
         give_up(fd, lock);
-        complain(b"boardchange: ", b"a standard stream is closed", b"");
+        complain(lock, b": a standard stream is closed");
         return -1;
     }
     fd

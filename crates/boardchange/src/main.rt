@@ -28,9 +28,11 @@ use given::given;
 use input::INPUT;
 use input::gather;
 use libc::ENOENT;
+use libc::STDERR_FILENO;
 use libc::STDIN_FILENO;
 use lines::complain;
 use lines::put;
+use lines::put_line;
 use lines::put_quoted;
 use lines::say;
 use lock::give_up;
@@ -55,33 +57,37 @@ fn replace(name: &[u8], lock: &[u8], fd: i32, b: Board) -> bool {
     libc::close(fd);
     if !sync_folder(name) {
         os::fail(name);
-        complain(
-            b"boardchange: ",
-            name,
-            b" is changed, but a loss of power may undo it",
-        );
+        complain(name, b": changed, but a loss of power may undo it");
     }
     true
 }
 
-// What is wrong with a board file.
-fn put_fault(out: &mut [u8], at: usize, number: u8) -> usize {
+// What is wrong with a board file: the line of its number.
+fn fault(number: u8) -> usize {
     if number == 10 {
-        return put(out, at, b"this is no board file: its frame is broken");
+        return 0;
     }
     if number == 11 {
-        return put(out, at, b"the board file has a bad record");
+        return 1;
     }
     if number == 7 {
-        return put(out, at, b"in the board file some role reaches itself");
+        return 2;
     }
-    put(out, at, b"in the board file some role has no administrator")
+    3
 }
 
 fn say_file_refused(number: u8) {
     let mut out = [0u8; 512];
     let at = put_refused(&mut out, 0, number as u64);
-    let at = put_fault(&mut out, at, number);
+    let at = put_line(
+        &mut out,
+        at,
+        b"this is no board file: its frame is broken
+the board file has a bad record
+in the board file some role reaches itself
+in the board file some role has no administrator",
+        fault(number),
+    );
     say(&mut out, at);
 }
 
@@ -125,9 +131,8 @@ fn found(name: &[u8], lock: &[u8]) {
         libc::close(there);
         give_up(fd, lock);
         complain(
-            b"boardchange: ",
             name,
-            b" is there already; it stays as it is",
+            b": there is such a file already, which stays as it is",
         );
         return;
     }
@@ -226,14 +231,13 @@ fn act_beside(name: &[u8], lock: &[u8; 4096], k: usize) {
 // The same, with the lock's name from that of the file.
 fn act_on(name: &[u8]) {
     if name.len() == 0 {
-        complain(b"boardchange: ", b"FILE has no name", b"");
+        complain(b"FILE", b": it has no name");
         return;
     }
     if is_link(1) {
         complain(
-            b"boardchange: ",
             name,
-            b" is a symbolic link; name the file itself: two names would be two locks",
+            b": a symbolic link; name the file itself, since two names would be two locks",
         );
         return;
     }
@@ -241,39 +245,22 @@ fn act_on(name: &[u8]) {
     let n = os::arg(1, &mut lock);
     let k = put_lock(&mut lock, n);
     if k == 0 {
-        complain(b"boardchange: ", name, b": too long a name");
+        complain(name, b": too long a name");
         return;
     }
     act_beside(name, &lock, k);
 }
 
 fn usage() {
-    complain(
-        b"usage: boardchange FILE ",
-        b"ACTOR add-role ROLE [a-seniors SET] [i-seniors SET] [a-juniors SET] [i-juniors SET]",
-        b"",
-    );
-    complain(b"       boardchange FILE ", b"ACTOR remove-role ROLE", b"");
-    complain(
-        b"       boardchange FILE ",
-        b"ACTOR add-edge | remove-edge | change-edge SENIOR JUNIOR KIND",
-        b"",
-    );
-    complain(
-        b"       boardchange FILE ",
-        b"ACTOR give-rights | take-rights ROLE RIGHTS",
-        b"",
-    );
-    complain(b"       boardchange FILE ", b"found", b"");
-    complain(
-        b"       boardchange FILE ",
-        b"   with such commands on standard input, one a line",
-        b"",
-    );
-    complain(
-        b"SET is roles: 1,2,5. ",
-        b"KIND is I, A or IA. RIGHTS is all, or names of commands: add-role,add-edge.",
-        b"",
+    io::write_all(
+        STDERR_FILENO,
+        b"usage: boardchange FILE COMMAND.. | boardchange FILE <COMMANDS | boardchange FILE found
+  ACTOR add-role ROLE [a-seniors SET] [i-seniors SET] [a-juniors SET] [i-juniors SET]
+  ACTOR remove-role ROLE
+  ACTOR add-edge | remove-edge | change-edge SENIOR JUNIOR KIND
+  ACTOR give-rights | take-rights ROLE RIGHTS
+SET: roles, as 1,2,5. KIND: I, A or IA. RIGHTS: all, or names of commands, as add-role,add-edge.
+",
     );
 }
 

@@ -1,8 +1,10 @@
 // What a command was answered, in words that a coordinator can act on.
+use crate::lines::Numbers;
 use crate::lines::put;
-use crate::lines::put_number;
+use crate::lines::put_form;
+use crate::lines::put_line;
+use crate::lines::put_line_form;
 use crate::lines::put_quoted;
-use crate::lines::put_role;
 use crate::lines::say;
 use board::Board;
 use board::Command;
@@ -28,40 +30,41 @@ fn begin(out: &mut [u8], number: u64) -> usize {
     if number == 0 {
         return 0;
     }
-    let at = put_number(out, 0, number);
-    put(out, at, b": ")
+    put_form(out, 0, b"@: ", numbers(number, 0, 0, 0))
 }
 
 pub(crate) fn put_refused(out: &mut [u8], at: usize, number: u64) -> usize {
-    let at = put(out, at, b"refused ");
-    let at = put_number(out, at, number);
-    put(out, at, b": ")
+    put_form(out, at, b"refused @: ", numbers(number, 0, 0, 0))
 }
 
 // ---- a line that is no command
 
-fn put_wanted(out: &mut [u8], at: usize, wanted: Wanted) -> usize {
+// What should stand where a word is wrong: the line of its number.
+fn place_of(wanted: Wanted) -> usize {
     match wanted {
-        Wanted::Role => put(out, at, b"a role, 0 to 63"),
-        Wanted::Name => put(
-            out,
-            at,
-            b"add-role, remove-role, add-edge, remove-edge, change-edge, give-rights or take-rights",
-        ),
-        Wanted::Kind => put(out, at, b"a kind: I, A or IA"),
-        Wanted::Roles => put(out, at, b"roles, 0 to 63, with commas between: 1,2,5"),
-        Wanted::Rights => put(
-            out,
-            at,
-            b"all, or commands from add-role to change-edge, with commas between",
-        ),
-        Wanted::SetName => put(
-            out,
-            at,
-            b"a-seniors, i-seniors, a-juniors or i-juniors, each once",
-        ),
-        Wanted::Nothing => put(out, at, b"nothing"),
+        Wanted::Role => 0,
+        Wanted::Name => 1,
+        Wanted::Kind => 2,
+        Wanted::Roles => 3,
+        Wanted::Rights => 4,
+        Wanted::SetName => 5,
+        Wanted::Nothing => 6,
     }
+}
+
+fn put_wanted(out: &mut [u8], at: usize, wanted: Wanted) -> usize {
+    put_line(
+        out,
+        at,
+        b": this should be a role, 0 to 63
+: this should be add-role, remove-role, add-edge, remove-edge, change-edge, give-rights or take-rights
+: this should be a kind: I, A or IA
+: this should be roles, 0 to 63, with commas between: 1,2,5
+: this should be all, or commands from add-role to change-edge, with commas between
+: this should be a-seniors, i-seniors, a-juniors or i-juniors, each once
+ is too much: the command ends before it",
+        place_of(wanted),
+    )
 }
 
 // The wrong word, or that the line ends too soon.
@@ -72,88 +75,85 @@ fn put_place(out: &mut [u8], at: usize, text: &[u8]) -> usize {
     put_quoted(out, at, text)
 }
 
-fn put_wrong(out: &mut [u8], at: usize, text: &[u8], wanted: Wanted) -> usize {
-    let at = put_place(out, at, text);
-    if let Wanted::Nothing = wanted {
-        return put(out, at, b" is too much: the command ends before it");
-    }
-    let at = put(out, at, b": this should be ");
-    put_wanted(out, at, wanted)
-}
-
 pub(crate) fn say_wrong(line: &[u8], k: usize, wanted: Wanted, number: u64) {
     let mut out = [0u8; LINE];
     let at = begin(&mut out, number);
     let at = put_refused(&mut out, at, 2);
-    let at = put_wrong(&mut out, at, word(line, k), wanted);
+    let at = put_place(&mut out, at, word(line, k));
+    let at = put_wanted(&mut out, at, wanted);
     say(&mut out, at);
 }
 
 // ---- a command that was refused
 
-// The name of a right, which is that of its command.
-fn put_name(out: &mut [u8], at: usize, right: usize) -> usize {
-    if right == 0 {
-        return put(out, at, b"add-role");
+fn numbers(first: u64, second: u64, third: u64, fourth: u64) -> Numbers {
+    Numbers {
+        first,
+        second,
+        third,
+        fourth,
     }
-    if right == 1 {
-        return put(out, at, b"remove-role");
-    }
-    if right == 2 {
-        return put(out, at, b"add-edge");
-    }
-    if right == 3 {
-        return put(out, at, b"remove-edge");
-    }
-    put(out, at, b"change-edge")
 }
 
-fn put_kind(out: &mut [u8], at: usize, kind: u32) -> usize {
-    if kind == 1 {
-        return put(out, at, b"I");
-    }
-    if kind == 2 {
-        return put(out, at, b"A");
-    }
-    put(out, at, b"IA")
+// A form whose numbers are the senior and the junior.
+fn put_edge(out: &mut [u8], at: usize, form: &[u8], c: Command) -> usize {
+    put_form(out, at, form, numbers(c.role as u64, c.junior as u64, 0, 0))
 }
 
-fn put_edge(out: &mut [u8], at: usize, words: &[u8], c: Command) -> usize {
-    let at = put_role(out, at, words, c.role as u64);
-    put_role(out, at, b" to ", c.junior as u64)
+// The roles that a command names and that must exist.
+fn named(c: Command) -> u64 {
+    let seniors = union(c.a_seniors, c.i_seniors);
+    let juniors = union(c.a_juniors, c.i_juniors);
+    let actor = c.actor as usize;
+    let role = c.role as usize;
+    if c.code == 1 {
+        return with(union(seniors, juniors), actor);
+    }
+    if 5 < c.code {
+        return with(single(role), actor);
+    }
+    if c.code == 2 {
+        return with(single(role), actor);
+    }
+    with(with(single(role), c.junior as usize), actor)
+}
+
+// The lowest of some roles; 64 where there is none.
+fn first(roles: u64) -> u64 {
+    let p = lowest(roles);
+    match p {
+        Pick::Role(r) => r as u64,
+        Pick::Nobody => 64,
+    }
 }
 
 // 3: the lowest role that the command names and that isn't live.
 fn put_absent(out: &mut [u8], at: usize, live: u64, c: Command) -> usize {
-    let seniors = union(c.a_seniors, c.i_seniors);
-    let juniors = union(c.a_juniors, c.i_juniors);
-    let mut named = with(union(seniors, juniors), c.actor as usize);
-    if c.code != 1 {
-        named = with(named, c.role as usize);
-    }
-    if 3 <= c.code && c.code <= 5 {
-        named = with(named, c.junior as usize);
-    }
-    let p = lowest(minus(named, live));
-    match p {
-        Pick::Role(r) => {
-            let at = put_role(out, at, b"", r as u64);
-            put(out, at, b" isn't live: no such role is on the board")
-        }
-        Pick::Nobody => put(out, at, b"a role isn't live"),
-    }
+    let absent = first(minus(named(c), live));
+    put_form(
+        out,
+        at,
+        b"role @ isn't live: no such role is on the board",
+        numbers(absent, 0, 0, 0),
+    )
 }
 
 // 4: what is to be added stands.
 fn put_standing(out: &mut [u8], at: usize, c: Command) -> usize {
     if c.code == 1 {
-        let at = put_role(out, at, b"", c.role as u64);
-        return put(out, at, b" is on the board already");
+        return put_form(
+            out,
+            at,
+            b"role @ is on the board already",
+            numbers(c.role as u64, 0, 0, 0),
+        );
     }
-    let at = put_edge(out, at, b"the edge from ", c);
-    let at = put(out, at, b" has ");
-    let at = put_kind(out, at, c.kind);
-    put(out, at, b" already")
+    let at = put_edge(out, at, b"the edge from role @ to role @ already has ", c);
+    put_kind(out, at, c.kind)
+}
+
+fn put_kind(out: &mut [u8], at: usize, kind: u32) -> usize {
+    put(out, at, word(b"nothing I A IA", kind as usize))
 }
 
 // The kind of the edge that the command names; 0 where there is none.
@@ -181,10 +181,9 @@ fn standing(b: Board, c: Command) -> u32 {
 fn put_lacking(out: &mut [u8], at: usize, b: Board, c: Command) -> usize {
     let kind = standing(b, c);
     if kind == 0 {
-        return put_edge(out, at, b"there is no edge from ", c);
+        return put_edge(out, at, b"there is no edge from role @ to role @", c);
     }
-    let at = put_edge(out, at, b"the edge from ", c);
-    let at = put(out, at, b" has only ");
+    let at = put_edge(out, at, b"the edge from role @ to role @ has only ", c);
     put_kind(out, at, kind)
 }
 
@@ -235,32 +234,45 @@ fn asked(c: Command) -> u64 {
 
 // 13: the first right that the command asks for and that the actor may not use.
 fn put_no_right(out: &mut [u8], at: usize, b: Board, c: Command) -> usize {
-    let at = put_role(out, at, b"neither ", c.actor as u64);
-    let at = put(out, at, b" nor a role that it derives holds the right to ");
-    let p = lowest(minus(asked(c), usable(b, c.actor as usize)));
-    match p {
-        Pick::Role(x) => put_name(out, at, x),
-        Pick::Nobody => put(out, at, b"this"),
-    }
+    let at = put_form(
+        out,
+        at,
+        b"neither role @ nor a role that it derives holds the right to ",
+        numbers(c.actor as u64, 0, 0, 0),
+    );
+    let right = first(minus(asked(c), usable(b, c.actor as usize)));
+    put(
+        out,
+        at,
+        word(
+            b"add-role remove-role add-edge remove-edge change-edge",
+            right as usize,
+        ),
+    )
 }
 
 // 6: who is out of scope, and why.
 fn put_barred(out: &mut [u8], at: usize, c: Command, a: Answer) -> usize {
+    let who = a.who as u64;
     let actor = c.actor as u64;
-    let at = put_role(out, at, b"", a.who as u64);
-    let cause = a.cause;
-    if cause == Answer::ITSELF {
-        let at = put_role(out, at, b" is not in the strict scope of ", actor);
-        let at = put_role(out, at, b", which leaves out ", actor);
-        return put(out, at, b" itself");
+    put_line_form(
+        out,
+        at,
+        b"role @ is not in the scope of role @
+role @ is not in the scope of role @, since role @ doesn't derive it
+role @ is not in the scope of role @, since role @ derives it and is unrelated to role @
+role @ is not in the strict scope of role @, which leaves out role @ itself",
+        a.cause as usize,
+        numbers(who, actor, third(a.cause, actor, a.way as u64), actor),
+    )
+}
+
+// The third role that a 6 names: with cause 2 the one in the way, else the actor again.
+fn third(cause: u8, actor: u64, way: u64) -> u64 {
+    if cause == 2 {
+        return way;
     }
-    let at = put_role(out, at, b" is not in the scope of ", actor);
-    if cause == 1 {
-        let at = put_role(out, at, b", since ", actor);
-        return put(out, at, b" doesn't derive it");
-    }
-    let at = put_role(out, at, b", since ", a.way as u64);
-    put_role(out, at, b" derives it and is unrelated to ", actor)
+    actor
 }
 
 fn has_nobody(manager: &[u8; 64], x: usize) -> bool {
@@ -271,21 +283,21 @@ fn has_nobody(manager: &[u8; 64], x: usize) -> bool {
 }
 
 // The lowest live role but 0 without a line manager.
-fn unmanaged(live: u64, manager: &[u8; 64]) -> Pick {
+fn unmanaged(live: u64, manager: &[u8; 64]) -> u64 {
     let mut rest = without(live, 0);
     loop {
         let Pick::Role(x) = lowest(rest) else {
-            return Pick::Nobody;
+            return 64;
         };
         if has_nobody(manager, x) {
-            return Pick::Role(x);
+            return x as u64;
         }
         rest = without(rest, x);
     }
 }
 
 // 9: who would have no administrator.
-fn put_unmanaged(out: &mut [u8], at: usize, b: Board, c: Command) -> usize {
+fn orphan(b: Board, c: Command) -> u64 {
     let e = effect(b, c);
     let mut derives = [0u64; 64];
     let mut derivers = [0u64; 64];
@@ -298,16 +310,37 @@ fn put_unmanaged(out: &mut [u8], at: usize, b: Board, c: Command) -> usize {
         &mut derivers,
         &mut manager,
     );
-    let p = unmanaged(e.live, &manager);
-    match p {
-        Pick::Role(x) => {
-            let at = put_role(out, at, b"", x as u64);
-            put(out, at, b" would be left without an administrator")
-        }
-        Pick::Nobody => put(out, at, b"a role would be left without an administrator"),
-    }
+    unmanaged(e.live, &manager)
 }
 
+// 7, 8 and 9: what would be wrong with the board afterwards.
+fn put_late(out: &mut [u8], at: usize, b: Board, c: Command, number: u8) -> usize {
+    let role = c.role as u64;
+    if number == 7 {
+        return put_form(
+            out,
+            at,
+            b"role @ would reach itself: the edges would close a loop",
+            numbers(role, 0, 0, 0),
+        );
+    }
+    if number == 8 {
+        return put_form(
+            out,
+            at,
+            b"the new role @ would not be in the strict scope of role @",
+            numbers(role, c.actor as u64, 0, 0),
+        );
+    }
+    put_form(
+        out,
+        at,
+        b"role @ would be left without an administrator",
+        numbers(orphan(b, c), 0, 0, 0),
+    )
+}
+
+// Why a command was refused; a 1 or a 2 can't arise, since a file's board is sound and a line means no command that is malformed.
 fn put_reason(out: &mut [u8], at: usize, b: Board, c: Command, a: Answer) -> usize {
     let number = a.number;
     if number == 3 {
@@ -325,27 +358,7 @@ fn put_reason(out: &mut [u8], at: usize, b: Board, c: Command, a: Answer) -> usi
     if number == 6 {
         return put_barred(out, at, c, a);
     }
-    if number == 7 {
-        let at = put_role(out, at, b"", c.role as u64);
-        return put(
-            out,
-            at,
-            b" would reach itself: the edges would close a loop",
-        );
-    }
-    if number == 8 {
-        let at = put_role(out, at, b"the new ", c.role as u64);
-        return put_role(
-            out,
-            at,
-            b" would not be in the strict scope of ",
-            c.actor as u64,
-        );
-    }
-    if number == 9 {
-        return put_unmanaged(out, at, b, c);
-    }
-    put(out, at, b"a number is out of range")
+    put_late(out, at, b, c, number)
 }
 
 // The answer to a command on the board before it.
