@@ -147,16 +147,19 @@ pub(crate) fn put_quoted(out: &mut [u8], at: usize, text: &[u8]) -> usize {
     put(out, at, b"'")
 }
 
-// Writes the first n bytes of a buffer, and ends the line.
-fn write_line(fd: i32, out: &mut [u8], n: usize) {
+// Writes the first n bytes of a buffer and ends the line; answers whether that went well.
+fn write_line(fd: i32, out: &mut [u8], n: usize) -> bool {
     let n = put(out, n, b"\n");
     if n <= out.len() {
-        io::write_all(fd, &out[0..n]);
+        return io::write_all(fd, &out[0..n]);
     }
+    false
 }
 
 pub(crate) fn say(out: &mut [u8], n: usize) {
-    write_line(STDOUT_FILENO, out, n);
+    if !write_line(STDOUT_FILENO, out, n) {
+        os::fail(b"standard output");
+    }
 }
 
 // A line on standard error: a name, and what is the matter with it.

@@ -1,5 +1,5 @@
 -- The set that a list of roles, or of rights, names. Assumes nothing.
-use mathlib.Core.Path.{_≡_, refl, sym, _∙_}
+use mathlib.Core.Path.{_≡_, refl, sym, ap, _∙_}
 use mathlib.Core.Bool.{Bool, true, false, _||_, or-assoc, or-false, false≢true}
 use mathlib.Core.Logic.{⊎-elim}
 use mathlib.Core.List.{List, [], _∷_}
@@ -9,15 +9,15 @@ use native.Mathlib.Omega.{arith}
 use lib.Dec.{eqb, leb, lit<, lit≤}
 use lib.ListN.{length, take, drop}
 use lib.Pow.{pow-mono}
-use borrow.Author.Tests.{le-leb, lt-leb, leb-true, eqb-true}
+use borrow.Author.Tests.{le-leb, lt-leb, leb-true, eqb-true, eq-eqb}
 use Rattle.sets.specs.Sets.{bit, same?, digits, setOf}
-use Rattle.sets.proofs.Bools.{or-cases, and-left, and-right, not-so, lt-or-ge, cond-elim}
+use Rattle.sets.proofs.Bools.{or-cases, or-left, and-left, and-right, not-so, false-no, lt-or-ge, cond-elim}
 use Rattle.sets.proofs.Digits.{bit-zero, bit-out, digits-fit, bit-digits}
 use Rattle.sets.proofs.Laws.{ext, same-is, setOf-fits, bit-setOf, is-setOf}
 use Rattle.wording.specs.Texts.{bytes, alike?, pieces}
-use Rattle.wording.specs.Names.{nameOf, most, allNamed?, named?, noMembers, membersOf, rightsOf}
+use Rattle.wording.specs.Names.{roleOf, nameOf, most, allNamed?, named?, noMembers, membersOf, rightsOf}
 use Rattle.wording.specs.declared.names.Listed.{Listed}
-use Rattle.wording.proofs.Cutting.{restOf, rest-over, Turn}
+use Rattle.wording.proofs.Cutting.{endOf, restOf, rest-over, Turn, turn}
 
 -- ---- the loop: the set so far, and the pieces from a place on
 
@@ -85,3 +85,19 @@ rights-few w = cond-elim Few (alike? w (bytes "all")) _ _
   where
     Few : Listed → Type 0
     Few m = m .set ≤ 31
+
+-- ---- a list names somebody: so a set of a new role that was named has a role in it
+
+somebody : (p : List ℕ) (ps : List (List ℕ)) → allNamed? false (p ∷ ps) ≡ true → setOf (named? false (p ∷ ps)) ≡ 0 → ⊥
+unfolding allNamed? named?
+somebody p ps a e =
+    let low : roleOf p ≤ 63 = leb-true (roleOf p) 63 (and-left (leb (roleOf p) 63) (allNamed? false ps) a) in
+    let here : named? false (p ∷ ps) (roleOf p) ≡ true = or-left (eqb (roleOf p) (roleOf p)) (named? false ps (roleOf p)) (eq-eqb (roleOf p) (roleOf p) refl) in
+    false-no (bit-zero (roleOf p)) (sym (ap (λ (s : ℕ). bit s (roleOf p)) e) ∙ bit-setOf (named? false (p ∷ ps)) (roleOf p) (omega arith) ∙ here)
+
+pub set-some : (w : List ℕ) → membersOf false w .fine ≡ true → membersOf false w .set ≡ 0 → ⊥
+unfolding membersOf restOf
+set-some w = cond-elim (λ (m : Listed). m .fine ≡ true → m .set ≡ 0 → ⊥) (allNamed? false (pieces 44 w)) _ _
+    (λ a _ e. let t = turn 44 w 0 (endOf 44 w 0) zero-le refl in
+    somebody _ _ (rw (t .cut) at a) (rw (t .cut) at e))
+    (λ _ f _. absurd (false≢true f))

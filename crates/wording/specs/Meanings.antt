@@ -66,7 +66,8 @@ withSet o set sets =
       «i_juniors» = cond (eqb o 3) set (sets .«i_juniors»);
     }
 
--- From this place on up to n names of sets, each with its roles behind it. None may have been named before: a set that was has a role in it.
+-- From this place on up to n names of sets, each with its roles behind it. None may have been named before: a set that was has a role in it
+-- (`set-some`).
 unfoldable pub setsFrom : ℕ → List ℕ → ℕ → ℕ → ℕ → Sets → Meaning
 setsFrom zero line k actor role sets = endsAt line k (asked 1 actor role 0 0 0 sets)
 setsFrom (suc n) line k actor role sets =
