@@ -46,10 +46,11 @@ fn not_loaded(name: &[u8]) -> Loaded {
     }
 }
 
-// Reads the board in the file; who may use that file may use the one that is open as `next`. One byte more than the longest file has is
-// read, so that a longer one is refused and not cut.
+// Reads the board in the file; who may use that file may use the one that is open as `next`. Whoever may not write to the file may not
+// put another in its place, so it is opened for that too. One byte more than the longest file has is read, so that a longer one is
+// refused and not cut.
 pub(crate) fn load(name: &[u8], next: i32) -> Loaded {
-    let fd = os::open_read(name);
+    let fd = os::open_update(name);
     if fd < 0 {
         return not_loaded(name);
     }
