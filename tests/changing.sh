@@ -27,13 +27,15 @@ typed() { # NAME STATUS SAID TROUBLE -- WORDS..: the same, with the file `input`
 
 judge() {
     count=$((count + 1))
-    [ "$got" -eq "$status" ] && [ "$(cat said)" = "$said" ] && grep -q -- "$trouble" trouble && [ ! -e my.board.lock ] && return
-    if [ -z "$trouble" ] && [ ! -s trouble ] && [ "$got" -eq "$status" ] && [ "$(cat said)" = "$said" ] && [ ! -e my.board.lock ]; then return; fi
-    echo "tests: $name: status $got (wanted $status), said '$(cat said)' (wanted '$said'), trouble '$(cat trouble)' (wanted '$trouble')" >&2
-    ls >&2
+    left=$(ls "$work" "$work/tmp" | grep -e '\.lock$' -e '^tmp\.' || :)
+    [ "$got" -eq "$status" ] && [ "$(cat said)" = "$said" ] && [ -z "$left" ] &&
+        if [ -n "$trouble" ]; then grep -q -- "$trouble" trouble; else [ ! -s trouble ]; fi && return
+    echo "tests: $name: status $got (wanted $status), said '$(cat said)' (wanted '$said'), trouble '$(cat trouble)' (wanted '$trouble'), left '$left'" >&2
     wrong=1
 }
 
+export TMPDIR="$work/tmp"
+mkdir tmp
 change=$top/change
 role="a role, 0 to 63"
 
@@ -46,21 +48,21 @@ expect 'sets in any order' 0 'done' '' -- "$change" my.board 0 add-role 2 i-seni
 cp my.board before
 
 # words
-expect 'role 64' 1 "refused 2: '64': this should be $role" '' -- "$change" my.board 64 remove-role 1
-expect 'a number that no type holds' 1 "refused 2: '18446744073709551617': this should be $role" '' -- "$change" my.board 0 remove-role 18446744073709551617
-expect 'a number with a sign' 1 "refused 2: '-1': this should be $role" '' -- "$change" my.board 0 remove-role -1
-expect 'a set with an empty place' 1 "refused 2: '1,': this should be roles, 0 to 63, with commas between: 1,2,5" '' -- "$change" my.board 0 add-role 5 i-seniors 1,
-expect 'a set named twice' 1 "refused 2: 'i-seniors': this should be a-seniors, i-seniors, a-juniors or i-juniors, each once" '' -- "$change" my.board 0 add-role 5 i-seniors 1 i-seniors 2
-expect 'a set without roles' 1 "refused 2: a word is missing at the end: this should be roles, 0 to 63, with commas between: 1,2,5" '' -- "$change" my.board 0 add-role 5 i-seniors
-expect 'the right of a right' 1 "refused 2: 'give-rights': this should be all, or commands from add-role to change-edge, with commas between" '' -- "$change" my.board 0 give-rights 1 give-rights
-expect 'a name with a capital' 1 "refused 2: 'Remove-role': this should be add-role, remove-role, add-edge, remove-edge, change-edge, give-rights or take-rights" '' -- "$change" my.board 0 Remove-role 1
+expect 'role 64' 1 "refused 2: '64': it should be $role" '' -- "$change" my.board 64 remove-role 1
+expect 'a number that no type holds' 1 "refused 2: '18446744073709551617': it should be $role" '' -- "$change" my.board 0 remove-role 18446744073709551617
+expect 'a number with a sign' 1 "refused 2: '-1': it should be $role" '' -- "$change" my.board 0 remove-role -1
+expect 'a set with an empty place' 1 "refused 2: '1,': it should be roles, 0 to 63, with commas and no blanks between: 1,2,5" '' -- "$change" my.board 0 add-role 5 i-seniors 1,
+expect 'a set named twice' 1 "refused 2: 'i-seniors': it should be a-seniors, i-seniors, a-juniors or i-juniors, each once" '' -- "$change" my.board 0 add-role 5 i-seniors 1 i-seniors 2
+expect 'a set without roles' 1 "refused 2: a word is missing at the end: it should be roles, 0 to 63, with commas and no blanks between: 1,2,5" '' -- "$change" my.board 0 add-role 5 i-seniors
+expect 'the right of a right' 1 "refused 2: 'give-rights': it should be all, or some of add-role,remove-role,add-edge,remove-edge,change-edge with commas and no blanks between" '' -- "$change" my.board 0 give-rights 1 give-rights
+expect 'a name with a capital' 1 "refused 2: 'Remove-role': it should be add-role, remove-role, add-edge, remove-edge, change-edge, give-rights or take-rights" '' -- "$change" my.board 0 Remove-role 1
 expect 'two words in one' 1 "refused 2: '2 a-juniors 1' is no word: it is empty, too long, or has a blank in it" '' -- "$change" my.board 0 add-role '2 a-juniors 1'
 expect 'an empty word' 1 "refused 2: '' is no word: it is empty, too long, or has a blank in it" '' -- "$change" my.board 0 remove-role ''
-expect 'a line end in a word' 1 "refused 2: '1?done': this should be $role" '' -- "$change" my.board 0 remove-role '1
+expect 'a line end in a word' 1 "refused 2: '1?done': it should be $role" '' -- "$change" my.board 0 remove-role '1
 done'
-expect 'a comment as a command' 1 "refused 2: '#': this should be $role" '' -- "$change" my.board '#' hello
+expect 'a comment as a command' 1 "refused 2: '#': it should be $role" '' -- "$change" my.board '#' hello
 long=$(head -c 5000 /dev/zero | tr '\0' 1)
-expect 'a word longer than its buffer' 1 "refused 2: '' is no word: it is empty, too long, or has a blank in it" '' -- "$change" my.board 0 remove-role "$long"
+expect 'a word longer than its buffer' 1 "refused 2: '1111111111111111111111111111111111111111..' is no word: it is empty, too long, or has a blank in it" '' -- "$change" my.board 0 remove-role "$long"
 cmp -s before my.board || { echo "tests: a refused command changed the file" >&2; wrong=1; }
 
 # lines
@@ -74,7 +76,7 @@ typed 'lines that end in several ways' 1 '1: done
 3: refused 3: role 9 isn'"'"'t live: no such role is on the board
 5: done' '' -- "$change" my.board
 printf '0 remove-role 4\0\n' >input
-typed 'a byte of 0' 1 "1: refused 2: '4?': this should be $role" '' -- "$change" my.board
+typed 'a byte of 0' 1 "1: refused 2: '4?': it should be $role" '' -- "$change" my.board
 { head -c 59984 /dev/zero | tr '\0' '\n'; printf '0 remove-role 4\n'; } >input
 typed 'an input of 60000 bytes' 0 '59985: done' '' -- "$change" my.board
 printf '\n' >>input
@@ -83,11 +85,13 @@ typed 'an input of 60001 bytes' 1 'refused 2: the input has more than 60000 byte
 head -c 200000 /dev/zero | tr '\0' ',' >input
 typed 'an input of 200000 commas' 1 'refused 2: the input has more than 60000 bytes; nothing of it was tried' '' -- "$change" my.board
 head -c 60000 /dev/zero | tr '\0' ',' >input
-typed 'a line of 60000 commas' 1 "1: refused 2: ',,,,,,,,,,,,,,,,,,,,,,,,,,,,,,,,,,,,,,,,..': this should be $role" '' -- "$change" my.board
+typed 'a line of 60000 commas' 1 "1: refused 2: ',,,,,,,,,,,,,,,,,,,,,,,,,,,,,,,,,,,,,,,,..': it should be $role" '' -- "$change" my.board
 cmp -s before my.board || { echo "tests: a refused input changed the file" >&2; wrong=1; }
+awk 'BEGIN { for (k = 0; k < 3500; k++) print "0 remove-role 64" }' >input
+typed 'an evening of 3500 lines' 1 "$(awk -v q="'" 'BEGIN { for (k = 1; k <= 3500; k++) printf "%d: refused 2: %s64%s: it should be a role, 0 to 63\n", k, q, q }')" '' -- "$change" my.board
 
 # files
-for fault in '10:HH:this is no board file: its frame is broken' '11:\001\0\0\001\0\110\110:the board file has a bad record' \
+for fault in '10:HH:this is no board file, or it was cut or damaged' '11:\001\0\0\001\0\110\110:the board file is damaged: it has a bad record' \
     '7:\0\001\0\001\001\001\0\001\006\0\010\0\110\110:in the board file some role reaches itself' \
     '9:\0\001\0\0\002\0\110\110:in the board file some role has no administrator'; do
     bytes=${fault#*:}
@@ -99,7 +103,7 @@ done
 cp "$top/boards/longest.board" my.board
 expect 'the longest file' 0 'done' '' -- "$change" my.board 0 take-rights 0 remove-edge
 { cat "$top/boards/longest.board"; printf R; } >my.board
-expect 'a byte more than the longest file' 1 'refused 10: this is no board file: its frame is broken' '' -- "$change" my.board 0 take-rights 0 remove-edge
+expect 'a byte more than the longest file' 1 'refused 10: this is no board file, or it was cut or damaged' '' -- "$change" my.board 0 take-rights 0 remove-edge
 
 # names, and what the system refuses
 cp "$top/boards/p.board" my.board
@@ -107,7 +111,19 @@ ln -s my.board link.board
 expect 'a symbolic link' 2 '' 'link.board: a symbolic link' -- "$change" link.board 0 remove-role 1
 mkdir folder
 expect 'a folder' 2 '' 'folder: Is a directory' -- "$change" folder 0 remove-role 1
-expect 'no folder' 2 '' 'no folder none' -- "$change" none/my.board 0 remove-role 1
+expect 'no folder' 2 '' 'no folder ./none' -- "$change" none/my.board 0 remove-role 1
+expect 'the name of a lock' 2 '' "my.board.lock: so a board's lock is called" -- "$change" my.board.lock found
+ln my.board second.board
+expect 'a second name' 2 '' 'my.board: it has another name' -- "$change" my.board 0 remove-role 1
+rm second.board
+mkfifo pipe.board
+expect 'a pipe' 2 '' 'pipe.board: no regular file' -- "$change" pipe.board 0 remove-role 1
+expect 'a founding on a pipe' 2 '' 'pipe.board: there is such a file already' -- "$change" pipe.board found
+ln -s "$top/change" by-another-name
+expect 'called by a link' 1 'refused 7: role 1 would reach itself: the edges would close a loop' '' -- ./by-another-name my.board 0 add-edge 1 0 I
+mkdir -- -x
+cp my.board ./-x/
+expect 'a folder with a hyphen' 1 'refused 7: role 1 would reach itself: the edges would close a loop' '' -- "$change" -x/my.board 0 add-edge 1 0 I
 expect 'no name' 2 '' 'FILE: it has no name' -- "$change" '' 0 remove-role 1
 expect 'a name that is too long' 2 '' 'name too long' -- "$change" "$(head -c 300 /dev/zero | tr '\0' n)" found
 cp my.board -- -n.board
@@ -119,11 +135,15 @@ expect 'a change' 0 'done' '' -- "$change" my.board 1 remove-role 2
 [ "$(stat -c %a my.board)" = 640 ] || { echo "tests: the file's mode was lost" >&2; wrong=1; }
 touch my.board.lock
 expect 'a lock that a dead change left' 0 'done' '' -- "$change" my.board 1 add-role 2 i-seniors 1
-exec 8>my.board.lock
+cp my.board 'my own.board'
+exec 8>'my own.board.lock'
 got=0
-"$change" my.board 1 remove-role 2 >said 2>trouble 8>&- || got=$?
-[ "$got" -eq 75 ] && [ ! -s said ] && grep -q '^busy: ' trouble && [ -e my.board.lock ] ||
+"$change" 'my own.board' 1 remove-role 2 >said 2>trouble 8>&- || got=$?
+[ "$got" -eq 75 ] && [ ! -s said ] && grep -q '^busy: ' trouble && [ -e 'my own.board.lock' ] ||
     { echo "tests: a lock that is held: status $got, said '$(cat said)', trouble '$(cat trouble)'" >&2; wrong=1; }
 exec 8>&-
-rm my.board.lock
+rm 'my own.board.lock'
+got=0
+"$change" my.board 1 remove-role 2 >/dev/full 2>trouble || got=$?
+[ "$got" -eq 74 ] && [ ! -e my.board.lock ] || { echo "tests: answers that can't be written: status $got, trouble '$(cat trouble)'" >&2; wrong=1; }
 [ "$wrong" -eq 0 ] && echo "tests: boardchange did what it should $count times"

@@ -3,6 +3,7 @@ ghost use Prim.Native.Nat.{_≤_};
 ghost use lib.ListN.{length};
 use crate::paths::folder;
 use crate::system::keep_mode;
+use crate::system::see;
 use board::Board;
 
 // How much was read: n bytes, and whether no read failed.
@@ -30,48 +31,66 @@ pub(crate) fn read_whole(fd: i32, out: &mut [u8]) -> Amount
     Amount { n, fine: true }
 }
 
-// A board that was read: the reader's number, and whether the system let the file be read at all.
+// A board that was read: the reader's number, and what kept the file from being read at all.
 pub(crate) struct Loaded {
-    pub(crate) fine: bool,
+    pub(crate) trouble: u8,
     pub(crate) number: u8,
     pub(crate) board: Board,
 }
 
-fn not_loaded(name: &[u8]) -> Loaded {
-    os::fail(name);
+// The troubles: what errno says; no regular file; several names, which would be several locks.
+pub(crate) const SYSTEM: u8 = 1;
+
+pub(crate) const NO_FILE: u8 = 2;
+
+pub(crate) const NAMES: u8 = 3;
+
+fn not_loaded(trouble: u8) -> Loaded {
     Loaded {
-        fine: false,
+        trouble,
         number: 0,
         board: Board::founding(),
     }
 }
 
-// Reads the board in the file; who may use that file may use the one that is open as `next`. Whoever may not write to the file may not
-// put another in its place, so it is opened for that too. One byte more than the longest file has is read, so that a longer one is
-// refused and not cut.
-pub(crate) fn load(name: &[u8], next: i32) -> Loaded {
-    let fd = os::open_update(name);
-    if fd < 0 {
-        return not_loaded(name);
-    }
-    keep_mode(fd, next);
+// Reads the board in a file that is open. One byte more than the longest file has is read, so that a longer one is refused and not cut.
+fn load_from(fd: i32) -> Loaded {
     let mut space = [0u8; Board::FILE + 1];
     let got = read_whole(fd, &mut space);
     if !got.fine {
-        let failed = not_loaded(name);
-        libc::close(fd);
-        return failed;
+        return not_loaded(SYSTEM);
     }
-    libc::close(fd);
     let n = got.n;
     let reading = boardfile::read(&space[0..n]);
     let number = reading.number;
     let board = reading.board;
     Loaded {
-        fine: true,
+        trouble: 0,
         number,
         board,
     }
+}
+
+// Reads the board in the file; who may use that file may use the one that is open as `next`. Whoever may not write to the file may not
+// put another in its place, so it is opened for that too.
+pub(crate) fn load(name: &[u8], next: i32) -> Loaded {
+    let fd = os::open_update(name);
+    if fd < 0 {
+        return not_loaded(SYSTEM);
+    }
+    let of = see(fd);
+    if !of.regular {
+        libc::close(fd);
+        return not_loaded(NO_FILE);
+    }
+    if of.names > 1 {
+        libc::close(fd);
+        return not_loaded(NAMES);
+    }
+    keep_mode(of, next);
+    let loaded = load_from(fd);
+    libc::close(fd);
+    loaded
 }
 
 // Puts the board's file into an open file, down to the disk.
@@ -91,18 +110,11 @@ pub(crate) fn store(fd: i32, b: Board) -> bool {
     libc::fsync(fd) == 0
 }
 
-// What the names of the folder mean now reaches the disk.
-pub(crate) fn sync_folder(name: &[u8]) -> bool {
+// Opens the folder of a file, so that what its names mean can be brought down to the disk.
+pub(crate) fn open_folder(name: &[u8]) -> i32 {
     let n = folder(name);
-    let fd = if n == 0 {
-        os::open_read(b".")
-    } else {
-        os::open_read(&name[0..n])
-    };
-    if fd < 0 {
-        return false;
+    if n == 0 {
+        return os::open_read(b".");
     }
-    let kept = libc::fsync(fd) == 0;
-    libc::close(fd);
-    kept
+    os::open_read(&name[0..n])
 }

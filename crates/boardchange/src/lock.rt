@@ -1,6 +1,7 @@
-// The lock of a board: a file beside it that one change makes and all others find. Nobody but its maker removes it.
+// The lock of a board: a file beside it that one change makes and all others find. This program removes no other's.
 use crate::lines::complain;
 use crate::system::nap;
+use crate::system::see;
 use libc::EEXIST;
 
 // how long a change waits for another, in hundredths of a second
@@ -21,10 +22,15 @@ fn taken(lock: &[u8]) -> i32 {
     fd
 }
 
+// Whether somebody took our lock away: then the file of that name, if there is one, is another's.
+pub(crate) fn is_lost(fd: i32) -> bool {
+    see(fd).names == 0
+}
+
 // The lock goes, and only then its descriptor: while the file stands, whoever looks finds that somebody has it open.
 pub(crate) fn give_up(fd: i32, lock: &[u8]) {
-    if os::unlink(lock) != 0 {
-        os::fail(lock);
+    if !is_lost(fd) {
+        os::unlink(lock);
     }
     libc::close(fd);
 }

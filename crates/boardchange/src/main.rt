@@ -4,8 +4,8 @@
 //     boardchange FILE                the commands on standard input, one a line
 //     boardchange FILE found          makes FILE, with the founding board
 //
-// It answers each command on standard output, with 'done' or with 'refused', the number and why. Nothing there means that the file is
-// as it was, for a reason that is on standard error.
+// It answers each command on standard output, with 'done' or with 'refused', the number and why. What the system refuses goes to standard
+// error with the name of the file, which is then as it was.
 //
 // Two at once: FILE.lock is made before FILE is read, and only where there is no such file. The new board is written there, reaches the
 // disk, and FILE.lock then takes FILE's name. So whoever reads FILE to decide on it is alone until it has decided, and FILE is at any
@@ -20,10 +20,12 @@ mod reasons;
 mod system;
 
 use board::Board;
+use disk::NAMES;
+use disk::NO_FILE;
 use disk::load;
+use disk::open_folder;
 use disk::read_whole;
 use disk::store;
-use disk::sync_folder;
 use given::given;
 use input::INPUT;
 use input::gather;
@@ -36,30 +38,64 @@ use lines::put_line;
 use lines::put_quoted;
 use lines::say;
 use lock::give_up;
+use lock::is_lost;
 use lock::take;
 use paths::is_link;
+use paths::is_lock;
 use paths::put_lock;
 use reasons::put_refused;
 
-// The new board takes the old one's place: it goes into the lock, down to the disk, and the lock takes the file's name. Answers whether it
-// did; where not, the lock is gone and the file as it was.
-fn replace(name: &[u8], lock: &[u8], fd: i32, b: Board) -> bool {
-    if !store(fd, b) {
-        os::fail(lock);
-        give_up(fd, lock);
+// The lock, which has the new board, takes the file's name, and that reaches the disk. Answers whether it did.
+fn renamed(name: &[u8], lock: &[u8], fd: i32, folder: i32) -> bool {
+    if is_lost(fd) {
+        libc::close(fd);
+        complain(lock, b": somebody removed this lock; nothing was changed");
         return false;
     }
     if os::rename(lock, name) != 0 {
-        os::fail(name);
         give_up(fd, lock);
+        os::fail(name);
         return false;
     }
     libc::close(fd);
-    if !sync_folder(name) {
+    if libc::fsync(folder) != 0 {
         os::fail(name);
         complain(name, b": changed, but a loss of power may undo it");
     }
     true
+}
+
+// The new board takes the old one's place: it goes into the lock, down to the disk, and the lock takes the file's name. Answers whether it
+// did; where not, the lock is gone and the file as it was. The lock goes before anything is said, here and everywhere.
+fn replace(name: &[u8], lock: &[u8], fd: i32, b: Board) -> bool {
+    let folder = open_folder(name);
+    if folder < 0 {
+        give_up(fd, lock);
+        os::fail(name);
+        return false;
+    }
+    if !store(fd, b) {
+        give_up(fd, lock);
+        os::fail(lock);
+        return false;
+    }
+    renamed(name, lock, fd, folder)
+}
+
+// Why a file could not be read.
+fn say_trouble(name: &[u8], trouble: u8) {
+    if trouble == NO_FILE {
+        complain(name, b": no regular file");
+        return;
+    }
+    if trouble == NAMES {
+        complain(
+            name,
+            b": it has another name, a hard link; two names would be two locks",
+        );
+        return;
+    }
+    os::fail(name);
 }
 
 // What is wrong with a board file: the line of its number.
@@ -82,8 +118,8 @@ fn say_file_refused(number: u8) {
     let at = put_line(
         &mut out,
         at,
-        b"this is no board file: its frame is broken
-the board file has a bad record
+        b"this is no board file, or it was cut or damaged
+the board file is damaged: it has a bad record
 in the board file some role reaches itself
 in the board file some role has no administrator",
         fault(number),
@@ -98,8 +134,9 @@ fn change(name: &[u8], lock: &[u8], text: &[u8], many: bool) {
         return;
     }
     let was = load(name, fd);
-    if !was.fine {
+    if was.trouble != 0 {
         give_up(fd, lock);
+        say_trouble(name, was.trouble);
         return;
     }
     if was.number != 0 {
@@ -126,7 +163,7 @@ fn found(name: &[u8], lock: &[u8]) {
     if fd < 0 {
         return;
     }
-    let there = os::open_read(name);
+    let there = os::open_update(name);
     if there >= 0 {
         libc::close(there);
         give_up(fd, lock);
@@ -137,8 +174,8 @@ fn found(name: &[u8], lock: &[u8]) {
         return;
     }
     if os::errno() != ENOENT {
-        os::fail(name);
         give_up(fd, lock);
+        os::fail(name);
         return;
     }
     if replace(name, lock, fd, Board::founding()) {
@@ -175,12 +212,20 @@ fn change_by_input(name: &[u8], lock: &[u8]) {
     change(name, lock, &space[0..n], true);
 }
 
+// Argument k in quotes, cut where it is long.
+fn put_argument(out: &mut [u8], at: usize, k: usize) -> usize {
+    let mut text = io::buffer();
+    let n = os::arg(k, &mut text);
+    if os::errno() != 0 {
+        return put_quoted(out, at, &text);
+    }
+    put_quoted(out, at, &text[..n])
+}
+
 fn say_no_word(k: usize) {
     let mut out = [0u8; 512];
     let at = put_refused(&mut out, 0, 2);
-    let mut text = io::buffer();
-    let n = os::arg(k, &mut text);
-    let at = put_quoted(&mut out, at, &text[..n]);
+    let at = put_argument(&mut out, at, k);
     let at = put(
         &mut out,
         at,
@@ -232,6 +277,10 @@ fn act_beside(name: &[u8], lock: &[u8; 4096], k: usize) {
 fn act_on(name: &[u8]) {
     if name.len() == 0 {
         complain(b"FILE", b": it has no name");
+        return;
+    }
+    if is_lock(name) {
+        complain(name, b": so a board's lock is called, not a board");
         return;
     }
     if is_link(1) {

@@ -15,6 +15,16 @@ pub(crate) fn put_lock(name: &mut [u8; 4096], n: usize) -> usize {
     n + 5
 }
 
+// Whether the name could be that of another board's lock.
+pub(crate) fn is_lock(name: &[u8]) -> bool {
+    let n = name.len();
+    if n < 5 {
+        return false;
+    }
+    let from = n - 5;
+    check::same(&name[from..n], b".lock")
+}
+
 // How many bytes of the name its folder has, with the '/' that ends it; 0 where it names none.
 pub(crate) fn folder(name: &[u8]) -> usize
     ensures { λ r. ⌜ r ≤ length (now (name .entry)) ⌝ }

@@ -56,12 +56,12 @@ fn put_wanted(out: &mut [u8], at: usize, wanted: Wanted) -> usize {
     put_line(
         out,
         at,
-        b": this should be a role, 0 to 63
-: this should be add-role, remove-role, add-edge, remove-edge, change-edge, give-rights or take-rights
-: this should be a kind: I, A or IA
-: this should be roles, 0 to 63, with commas between: 1,2,5
-: this should be all, or commands from add-role to change-edge, with commas between
-: this should be a-seniors, i-seniors, a-juniors or i-juniors, each once
+        b": it should be a role, 0 to 63
+: it should be add-role, remove-role, add-edge, remove-edge, change-edge, give-rights or take-rights
+: it should be a kind: I, A or IA
+: it should be roles, 0 to 63, with commas and no blanks between: 1,2,5
+: it should be all, or some of add-role,remove-role,add-edge,remove-edge,change-edge with commas and no blanks between
+: it should be a-seniors, i-seniors, a-juniors or i-juniors, each once
  is too much: the command ends before it",
         place_of(wanted),
     )
@@ -109,13 +109,10 @@ fn named(c: Command) -> u64 {
     if c.code == 1 {
         return with(union(seniors, juniors), actor);
     }
-    if 5 < c.code {
-        return with(single(role), actor);
+    if 3 <= c.code && c.code <= 5 {
+        return with(with(single(role), c.junior as usize), actor);
     }
-    if c.code == 2 {
-        return with(single(role), actor);
-    }
-    with(with(single(role), c.junior as usize), actor)
+    with(single(role), actor)
 }
 
 // The lowest of some roles; 64 where there is none.

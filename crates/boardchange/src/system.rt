@@ -15,17 +15,40 @@ pub(crate) fn nap() {
     libc::nanosleep(&asked, &mut left);
 }
 
-// Who may read and write the file `from` may do so with the file `to`: its group and its owner, where the system lets us give them away, and
-// its mode.
-pub(crate) fn keep_mode(from: i32, to: i32) {
-    let looked = look(from, blank());
-    if looked.answer != 0 {
-        return;
-    }
+// What the system says of an open file: whether it is a regular file, how many names it has, and who may use it.
+pub(crate) struct Seen {
+    pub(crate) regular: bool,
+    pub(crate) names: u64,
+    mode: u32,
+    owner: u32,
+    group: u32,
+}
+
+pub(crate) fn see(fd: i32) -> Seen {
+    let looked = look(fd, blank());
     let of = looked.of;
-    libc::fchown(to, u32::MAX, of.st_gid);
-    libc::fchown(to, of.st_uid, u32::MAX);
-    libc::fchmod(to, of.st_mode % 512);
+    Seen {
+        regular: of.st_mode / 4096 == 8,
+        names: of.st_nlink,
+        mode: of.st_mode % 512,
+        owner: of.st_uid,
+        group: of.st_gid,
+    }
+}
+
+// A mode, without what it lets the group do where the file has another group.
+fn mode_for(mode: u32, same_group: bool) -> u32 {
+    if same_group {
+        return mode;
+    }
+    mode / 64 * 64 + mode % 8
+}
+
+// Gives an open file the mode of another, and its group and its owner where the system lets us give them away.
+pub(crate) fn keep_mode(of: Seen, to: i32) {
+    let same_group = libc::fchown(to, u32::MAX, of.group) == 0;
+    libc::fchown(to, of.owner, u32::MAX);
+    libc::fchmod(to, mode_for(of.mode, same_group));
 }
 
 // What `fstat` said of a file, over what was there before, and its answer, 0 where it went well.

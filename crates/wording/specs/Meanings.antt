@@ -4,7 +4,7 @@
 --     ACTOR remove-role ROLE
 --     ACTOR add-edge | remove-edge | change-edge SENIOR JUNIOR KIND
 --     ACTOR give-rights | take-rights ROLE RIGHTS
-use mathlib.Core.Bool.{Bool, true, false, cond, _&&_}
+use mathlib.Core.Bool.{Bool, false, cond, _&&_}
 use mathlib.Core.List.{List}
 use Prim.Native.Nat.{ℕ, zero, suc, _+_}
 use lib.Dec.{eqb, leb}
@@ -41,7 +41,7 @@ asked code actor role junior kind rights sets =
 abbrev pub noSets : Sets
 noSets = record { «a_seniors» = 0; «i_seniors» = 0; «a_juniors» = 0; «i_juniors» = 0 }
 
--- the line ends before this place, and means c
+-- whether the line has no word at this place; and where it should end before this place, and then means c
 abbrev pub none? : List ℕ → ℕ → Bool
 none? line k = eqb (length (wordAt line k)) 0
 

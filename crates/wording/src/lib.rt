@@ -18,7 +18,7 @@ use names::role;
 use names::set_name;
 use pieces::word;
 
-pub mod names;
+mod names;
 pub mod pieces;
 
 // What a line means: a command, or that the word at this place is wrong, which is past the last word where one is missing.
@@ -40,11 +40,11 @@ pub enum Wanted {
 }
 
 // The four sets of a new role.
-pub struct Sets {
-    pub a_seniors: u64,
-    pub i_seniors: u64,
-    pub a_juniors: u64,
-    pub i_juniors: u64,
+struct Sets {
+    a_seniors: u64,
+    i_seniors: u64,
+    a_juniors: u64,
+    i_juniors: u64,
 }
 
 fn no_sets() -> Sets

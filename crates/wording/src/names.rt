@@ -29,7 +29,7 @@ fn place_in(text: &[u8], names: &[u8]) -> usize
 }
 
 // Commands 1 to 7, kinds 1 to 3, the sets of a new role 0 to 3, and rights 0 to 4, by their names.
-pub fn code(text: &[u8]) -> usize
+pub(crate) fn code(text: &[u8]) -> usize
     ensures { λ r. ⌜ r ≡ codeOf (now (text .entry)) ⌝ }
 {
     place_in(
@@ -39,13 +39,13 @@ pub fn code(text: &[u8]) -> usize
         + 1
 }
 
-pub fn kind(text: &[u8]) -> usize
+pub(crate) fn kind(text: &[u8]) -> usize
     ensures { λ r. ⌜ r ≡ kindOf (now (text .entry)) ⌝ }
 {
     place_in(text, b"I,A,IA") + 1
 }
 
-pub fn set_name(text: &[u8]) -> usize
+pub(crate) fn set_name(text: &[u8]) -> usize
     ensures { λ r. ⌜ r ≡ optionOf (now (text .entry)) ⌝ }
 {
     place_in(text, b"a-seniors,i-seniors,a-juniors,i-juniors")
@@ -81,7 +81,7 @@ fn grown(number: usize, b: u8) -> usize
 }
 
 // The role of a decimal number, 64 where it is none.
-pub fn role(text: &[u8]) -> usize
+pub(crate) fn role(text: &[u8]) -> usize
     ensures { λ r. ⌜ r ≡ roleOf (now (text .entry)) ⌝ }
 {
     let n = text.len();
@@ -116,13 +116,13 @@ fn most(rights: bool) -> usize
 }
 
 // The set that a list names, or that it is no such list.
-pub struct Listed {
-    pub fine: bool,
-    pub set: u64,
+pub(crate) struct Listed {
+    pub(crate) fine: bool,
+    pub(crate) set: u64,
 }
 
 // The roles, or the rights, that a text names with commas between.
-pub fn members(text: &[u8], rights: bool) -> Listed
+pub(crate) fn members(text: &[u8], rights: bool) -> Listed
     ensures { λ r. ⌜ r ≡ membersOf rights (now (text .entry)) ⌝ }
 {
     let n = text.len();
@@ -144,7 +144,7 @@ pub fn members(text: &[u8], rights: bool) -> Listed
 }
 
 // Rights by their names, or all of them.
-pub fn rights(text: &[u8]) -> Listed
+pub(crate) fn rights(text: &[u8]) -> Listed
     ensures { λ r. ⌜ r ≡ rightsOf (now (text .entry)) ⌝ }
 {
     if check::same(text, b"all") {
