@@ -56,13 +56,13 @@ expect 'a set named twice' 1 "refused 2: 'i-seniors': it should be a-seniors, i-
 expect 'a set without roles' 1 "refused 2: a word is missing at the end: it should be roles, 0 to 63, with commas and no blanks between: 1,2,5" '' -- "$change" my.board 0 add-role 5 i-seniors
 expect 'the right of a right' 1 "refused 2: 'give-rights': it should be all, or some of add-role,remove-role,add-edge,remove-edge,change-edge with commas and no blanks between" '' -- "$change" my.board 0 give-rights 1 give-rights
 expect 'a name with a capital' 1 "refused 2: 'Remove-role': it should be add-role, remove-role, add-edge, remove-edge, change-edge, give-rights or take-rights" '' -- "$change" my.board 0 Remove-role 1
-expect 'two words in one' 1 "refused 2: '2 a-juniors 1' is no word: it is empty, too long, or has a blank in it" '' -- "$change" my.board 0 add-role '2 a-juniors 1'
-expect 'an empty word' 1 "refused 2: '' is no word: it is empty, too long, or has a blank in it" '' -- "$change" my.board 0 remove-role ''
+expect 'two words in one' 1 "refused 2: '2 a-juniors 1' can't be taken: no word is empty or has a blank in it, and all have at most 4095 bytes" '' -- "$change" my.board 0 add-role '2 a-juniors 1'
+expect 'an empty word' 1 "refused 2: '' can't be taken: no word is empty or has a blank in it, and all have at most 4095 bytes" '' -- "$change" my.board 0 remove-role ''
 expect 'a line end in a word' 1 "refused 2: '1?done': it should be $role" '' -- "$change" my.board 0 remove-role '1
 done'
 expect 'a comment as a command' 1 "refused 2: '#': it should be $role" '' -- "$change" my.board '#' hello
 long=$(head -c 5000 /dev/zero | tr '\0' 1)
-expect 'a word longer than its buffer' 1 "refused 2: '1111111111111111111111111111111111111111..' is no word: it is empty, too long, or has a blank in it" '' -- "$change" my.board 0 remove-role "$long"
+expect 'a word longer than its buffer' 1 "refused 2: '1111111111111111111111111111111111111111..' can't be taken: no word is empty or has a blank in it, and all have at most 4095 bytes" '' -- "$change" my.board 0 remove-role "$long"
 cmp -s before my.board || { echo "tests: a refused command changed the file" >&2; wrong=1; }
 
 # lines

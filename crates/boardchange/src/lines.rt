@@ -110,12 +110,12 @@ pub(crate) fn put_line_form(
     put_form(out, at, line_at(text, k), numbers)
 }
 
-// A byte as it may be shown: a text that somebody typed must not end our line.
+// A byte as it may be shown: a text that somebody typed must not end our line, nor look like another.
 fn shown(b: u8) -> u8 {
     if b < 32 {
         return b'?';
     }
-    if b == 127 {
+    if b > 126 {
         return b'?';
     }
     b

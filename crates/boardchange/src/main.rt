@@ -229,7 +229,7 @@ fn say_no_word(k: usize) {
     let at = put(
         &mut out,
         at,
-        b" is no word: it is empty, too long, or has a blank in it",
+        b" can't be taken: no word is empty or has a blank in it, and all have at most 4095 bytes",
     );
     say(&mut out, at);
 }

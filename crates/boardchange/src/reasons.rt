@@ -10,6 +10,7 @@ use board::Board;
 use board::Command;
 use board::commands::Answer;
 use board::effects::effect;
+use hierarchy::scopes::bars;
 use hierarchy::working::work_out;
 use sets::Pick;
 use sets::has;
@@ -293,8 +294,15 @@ fn unmanaged(live: u64, manager: &[u8; 64]) -> u64 {
     }
 }
 
-// 9: who would have no administrator.
-fn orphan(b: Board, c: Command) -> u64 {
+// What the board that a command would leave keeps: who would derive whom, and each role's line manager.
+struct Afterwards {
+    live: u64,
+    derives: [u64; 64],
+    derivers: [u64; 64],
+    manager: [u8; 64],
+}
+
+fn left_by(b: Board, c: Command) -> Afterwards {
     let e = effect(b, c);
     let mut derives = [0u64; 64];
     let mut derivers = [0u64; 64];
@@ -307,33 +315,50 @@ fn orphan(b: Board, c: Command) -> u64 {
         &mut derivers,
         &mut manager,
     );
-    unmanaged(e.live, &manager)
+    Afterwards {
+        live: e.live,
+        derives,
+        derivers,
+        manager,
+    }
 }
 
-// 7, 8 and 9: what would be wrong with the board afterwards.
-fn put_late(out: &mut [u8], at: usize, b: Board, c: Command, number: u8) -> usize {
+// 8: why the new role would not be in the actor's strict scope: nobody there leads down to it, or another role does who is unrelated.
+fn put_outside(out: &mut [u8], at: usize, b: Board, c: Command) -> usize {
+    let l = left_by(b, c);
+    let bar = bars(&l.derives, &l.derivers, c.actor as usize, c.role as usize);
+    let actor = c.actor as u64;
     let role = c.role as u64;
-    if number == 7 {
-        return put_form(
-            out,
-            at,
-            b"role @ would reach itself: the edges would close a loop",
-            numbers(role, 0, 0, 0),
-        );
-    }
-    if number == 8 {
-        return put_form(
-            out,
-            at,
-            b"the new role @ would not be in the strict scope of role @",
-            numbers(role, c.actor as u64, 0, 0),
-        );
-    }
+    let cause = bar.cause;
+    put_line_form(
+        out,
+        at,
+        b"the new role @ would not be in the strict scope of role @
+the new role @ would not be in the strict scope of role @, since role @ would not derive it: name another senior
+the new role @ would not be in the strict scope of role @, since role @ would derive it and is unrelated to role @",
+        cause as usize,
+        numbers(role, actor, third(cause, actor, bar.way as u64), actor),
+    )
+}
+
+// 9: who would have no administrator.
+fn put_orphan(out: &mut [u8], at: usize, b: Board, c: Command) -> usize {
+    let l = left_by(b, c);
     put_form(
         out,
         at,
         b"role @ would be left without an administrator",
-        numbers(orphan(b, c), 0, 0, 0),
+        numbers(unmanaged(l.live, &l.manager), 0, 0, 0),
+    )
+}
+
+// 7: a loop has to go through what the command adds.
+fn put_loop(out: &mut [u8], at: usize, c: Command) -> usize {
+    put_form(
+        out,
+        at,
+        b"role @ would reach itself: the edges would close a loop",
+        numbers(c.role as u64, 0, 0, 0),
     )
 }
 
@@ -355,7 +380,13 @@ fn put_reason(out: &mut [u8], at: usize, b: Board, c: Command, a: Answer) -> usi
     if number == 6 {
         return put_barred(out, at, c, a);
     }
-    put_late(out, at, b, c, number)
+    if number == 7 {
+        return put_loop(out, at, c);
+    }
+    if number == 8 {
+        return put_outside(out, at, b, c);
+    }
+    put_orphan(out, at, b, c)
 }
 
 // The answer to a command on the board before it.
