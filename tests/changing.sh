@@ -146,4 +146,14 @@ rm 'my own.board.lock'
 got=0
 "$change" my.board 1 remove-role 2 >/dev/full 2>trouble || got=$?
 [ "$got" -eq 74 ] && [ ! -e my.board.lock ] || { echo "tests: answers that can't be written: status $got, trouble '$(cat trouble)'" >&2; wrong=1; }
+
+# The order in which a change goes to the disk, which no crash of ours can show: the lock (L), the old board (R), the new one written (W) and
+# synced (S), the rename (M), the folder synced (S), and only then the answer (A).
+if command -v strace >/dev/null && [ "$(uname -m)" = x86_64 ]; then
+    cp "$top/boards/p.board" my.board
+    strace -f -o trace "$top/start" boardchange my.board 1 remove-role 2 >said
+    order=$(sed -nE 's/^[0-9]+ +//; /my\.board\.lock".*O_EXCL/s/.*/L/p; /open.*"my\.board", O_RDWR/s/.*/R/p; /^write\([3-9]/s/.*/W/p; /^fsync\(.*= 0/s/.*/S/p;
+        /^rename.*= 0/s/.*/M/p; /^write\(1, "done/s/.*/A/p' trace | tr -d '\n')
+    [ "$order" = LRWSMSA ] || { echo "tests: a change goes to the disk in the order $order" >&2; wrong=1; }
+fi
 [ "$wrong" -eq 0 ] && echo "tests: boardchange did what it should $count times"
