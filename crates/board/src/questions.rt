@@ -2,6 +2,7 @@
 // with `_by` are for a caller that has just found the board sound: the same answer, with nothing worked out again. Theirs is the one
 // read off what is lent, whatever that holds.
 ghost use Rattle.hierarchy.specs.First.{First};
+ghost use Rattle.board.specs.Boards.{boardOf};
 ghost use Rattle.board.specs.Looks.{DerivesOff, ScopeOff, ManagerOff, StepsOff};
 ghost use Rattle.board.specs.Questions.{misnamed, DerivesAnswer, ScopeAnswer, ManagerAnswer, StepsAnswer};
 use crate::Board;
@@ -65,7 +66,7 @@ fn refused(live: u64, x: u32, y: u32) -> u8
 pub fn derives(b: Board, x: u32, y: u32) -> Derived
     ensures { λ r. ⌜ DerivesAnswer b x y (r .number) (r .yes) ⌝ }
 {
-    if !sound_of(
+    derives_of(
         b.live,
         &b.i,
         &b.a,
@@ -73,13 +74,32 @@ pub fn derives(b: Board, x: u32, y: u32) -> Derived
         &b.derivers,
         &b.manager,
         &b.rights,
-    ) {
+        x,
+        y,
+    )
+}
+
+// The same of a board that is lent part by part.
+pub fn derives_of<'t>(
+    live: u64,
+    i: &'t [u64; 64],
+    a: &'t [u64; 64],
+    derives: &'t [u64; 64],
+    derivers: &'t [u64; 64],
+    manager: &'t [u8; 64],
+    rights: &'t [u8; 64],
+    x: u32,
+    y: u32,
+) -> Derived
+    ensures { λ r. ⌜ DerivesAnswer (boardOf live (now (i .entry)) (now (a .entry)) (now (derives .entry)) (now (derivers .entry)) (now (manager .entry)) (now (rights .entry))) x y (r .number) (r .yes) ⌝ }
+{
+    if !sound_of(live, i, a, derives, derivers, manager, rights) {
         return Derived {
             number: 1,
             yes: false,
         };
     }
-    derives_by(b.live, &b.derives, x, y)
+    derives_by(live, derives, x, y)
 }
 
 // The same, off the sets that are kept.
@@ -98,7 +118,7 @@ pub fn derives_by(live: u64, down: &[u64; 64], x: u32, y: u32) -> Derived
 pub fn scope(b: Board, a: u32, r: u32) -> Scoped
     ensures { λ y. ⌜ ScopeAnswer b a r (y .number) (y .yes) (y .count) (y .cause) (y .way) ⌝ }
 {
-    if !sound_of(
+    scope_of(
         b.live,
         &b.i,
         &b.a,
@@ -106,7 +126,26 @@ pub fn scope(b: Board, a: u32, r: u32) -> Scoped
         &b.derivers,
         &b.manager,
         &b.rights,
-    ) {
+        a,
+        r,
+    )
+}
+
+// The same of a board that is lent part by part.
+pub fn scope_of<'t>(
+    live: u64,
+    i: &'t [u64; 64],
+    a: &'t [u64; 64],
+    derives: &'t [u64; 64],
+    derivers: &'t [u64; 64],
+    manager: &'t [u8; 64],
+    rights: &'t [u8; 64],
+    actor: u32,
+    r: u32,
+) -> Scoped
+    ensures { λ y. ⌜ ScopeAnswer (boardOf live (now (i .entry)) (now (a .entry)) (now (derives .entry)) (now (derivers .entry)) (now (manager .entry)) (now (rights .entry))) actor r (y .number) (y .yes) (y .count) (y .cause) (y .way) ⌝ }
+{
+    if !sound_of(live, i, a, derives, derivers, manager, rights) {
         return Scoped {
             number: 1,
             yes: false,
@@ -115,7 +154,7 @@ pub fn scope(b: Board, a: u32, r: u32) -> Scoped
             way: 0,
         };
     }
-    scope_by(b.live, &b.derives, &b.derivers, a, r)
+    scope_by(live, derives, derivers, actor, r)
 }
 
 // The same, off the sets that are kept.

@@ -1,2 +1,3 @@
 -- What the functions for programs in C answer.
 pub mod Answers
+pub mod Jobs

@@ -3,6 +3,7 @@
 // What is decided is decided by `board`, `runs` and `boardfile`; here an answer is packed into one number. Nothing is asked of a caller but that
 // the pointers are good.
 mod answers;
+mod lists;
 
 ghost use mathlib.Core.Path.{_≡_};
 ghost use Rattle.board.specs.Boards.{boardOf, foundingBoard};

@@ -3,8 +3,8 @@ use Rattle.board.proofs.Looking.{holds, fails}
 use Rattle.board.proofs.Viewing.{scope-viewed}
 use Rattle.board.proofs.Asking.{answer-unsound}
 use borrow.Author.Needs.{needs}
-use Rattle.board.proofs.questions.scope.Statement.{statement}
-use Rattle.board.proofs.questions.scope.Tie as tie
+use Rattle.board.proofs.questions.scope_of.Statement.{statement}
+use Rattle.board.proofs.questions.scope_of.Tie as tie
 
 sound-of-requires : tie.Need-sound-of-requires
 sound-of-requires c κs = search needs
@@ -16,7 +16,7 @@ scope-by-requires : tie.Need-scope-by-requires
 scope-by-requires c κs = search needs
 
 returns-2 : tie.Need-returns-2
-returns-2 c = scope-viewed (holds (c .before .before .before .before .before .sound-of .ensures) (not-false _ (c .before .before .before .before .if1 .left))) _ _ (c .scope-by .ensures)
+returns-2 c = scope-viewed (holds (c .before .before .sound-of .ensures) (not-false _ (c .before .if1 .left))) _ _ (c .scope-by .ensures)
 
-pub scope-spec : {M : Type 1} → statement M
-scope-spec = tie.close (tie.spec sound-of-requires returns scope-by-requires returns-2)
+pub scope-of-spec : {M : Type 1} → statement M
+scope-of-spec = tie.close (tie.spec sound-of-requires returns scope-by-requires returns-2)

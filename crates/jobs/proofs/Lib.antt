@@ -1,0 +1,2 @@
+-- what the proofs of the functions stand on
+pub mod Deciding
