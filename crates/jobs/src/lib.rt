@@ -71,17 +71,8 @@ pub fn claim_of<'t>(
 ) -> u8
     ensures { λ r. ⌜ ClaimAnswer (boardOf live (now (i .entry)) (now (a .entry)) (now (derives .entry)) (now (derivers .entry)) (now (manager .entry)) (now (rights .entry))) (jobsOf (now (roles .entry)) (now (marks .entry)) (now (members .entry))) job member role r (jobsOf (now (roles .entry)) (now (marks .exit)) (now (members .exit))) ⌝ }
 {
-    let d = derives_of(
-        live,
-        i,
-        a,
-        derives,
-        derivers,
-        manager,
-        rights,
-        role,
-        role_of(roles, job),
-    );
+    let listed = role_of(roles, job);
+    let d = derives_of(live, i, a, derives, derivers, manager, rights, role, listed);
     if d.number != 0 {
         return d.number;
     }
@@ -143,17 +134,8 @@ pub fn release_of<'t>(
 ) -> u8
     ensures { λ r. ⌜ ReleaseAnswer (boardOf live (now (i .entry)) (now (a .entry)) (now (derives .entry)) (now (derivers .entry)) (now (manager .entry)) (now (rights .entry))) (jobsOf (now (roles .entry)) (now (marks .entry)) (now (members .entry))) job member role r (jobsOf (now (roles .entry)) (now (marks .exit)) (now (members .exit))) ⌝ }
 {
-    let s = scope_of(
-        live,
-        i,
-        a,
-        derives,
-        derivers,
-        manager,
-        rights,
-        role,
-        role_of(roles, job),
-    );
+    let listed = role_of(roles, job);
+    let s = scope_of(live, i, a, derives, derivers, manager, rights, role, listed);
     if s.number != 0 {
         return s.number;
     }
