@@ -1,4 +1,4 @@
--- An answer can be taken apart again, as the macros of `host/board.h` do. Assumes nothing.
+-- An answer can be taken apart again, as the macros of `host/board.h` and `host/jobs.h` do. Assumes nothing.
 use mathlib.Core.Path.{_≡_}
 use Prim.Native.Nat.{ℕ, _+_, _*_, _/_, _%_, _<_}
 use native.Mathlib.Omega.{arith}
@@ -38,3 +38,11 @@ module _ (number place start len : ℕ) (n : number < 256) (p : place < 256) (s 
 
   pub length-of : answer number place (start + 65536 * len) / 4294967296 % 65536 ≡ len
   length-of = omega arith
+
+-- a job: whether it is held is the value, and its member stands above
+module _ (number held member : ℕ) (n : number < 256) (h : held < 65536) where
+  pub held-of : (answer number 0 held + 4294967296 * member) / 65536 % 65536 ≡ held
+  held-of = omega arith
+
+  pub member-of : (answer number 0 held + 4294967296 * member) / 4294967296 ≡ member
+  member-of = omega arith

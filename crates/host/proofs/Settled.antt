@@ -14,6 +14,11 @@ use Rattle.boardfile.specs.declared.commands.Place.{Place}
 use Rattle.boardfile.proofs.Settled as F
 use Rattle.runs.specs.Packing.{answer, reason, answerOf}
 use Rattle.runs.proofs.Running as R
+use Rattle.jobs.specs.Lists.{Jobs}
+use Rattle.jobs.specs.Histories.{Event.claim, Event.release}
+use Rattle.jobs.specs.declared.State.{State}
+use Rattle.jobs.proofs.Theorems as J
+use Rattle.host.specs.Jobs.{StartPacked, ClaimPacked, ReleasePacked, oneIfHeld, memberOr0, JobPacked}
 use Rattle.host.specs.Answers.{placeNumber, placeOf, placeOfWriting, Checked, DerivesPacked, ScopePacked, managerOr64, ManagerPacked, StepsPacked, StretchPacked, Commanded, Applied, RunPacked, ReadPacked, WritePacked}
 
 -- the same number and the same value make the same answer to a question
@@ -72,3 +77,20 @@ pub write-unique : {b : Board} {entry exit other : List ℕ} {at r s : ℕ} → 
 write-unique p q =
     let k = F.write-unique (p .1 .1) (q .1 .1) in
     (k .2, p .1 .2 ∙ ap₂ (λ (n l : ℕ). answer n (placeOfWriting n) l) (k .0) (k .1) ∙ sym (q .1 .2))
+
+-- ---- the job list: the answer, and the list
+
+pub start-unique : {listed : List ℕ} {x y : Jobs} {r s : ℕ} → StartPacked listed x r → StartPacked listed y s → (x ≡ y) × (r ≡ s)
+start-unique p q = let k = J.start-unique (p .1) (q .1) in (k .1, p .2 ∙ ap (λ (n : ℕ). answer n 0 0) (k .0) ∙ sym (q .2))
+
+module _ (b : Board) (jobs : Jobs) (j m role : ℕ) {x y : Jobs} {r s : ℕ} where
+  pub claim-unique : ClaimPacked b jobs j m role x r → ClaimPacked b jobs j m role y s → (x ≡ y) × (r ≡ s)
+  claim-unique p q = let k = J.answer-unique (claim b j m role) jobs (p .1) (q .1) in (k .1, p .2 ∙ ap (λ (n : ℕ). answer n 0 0) (k .0) ∙ sym (q .2))
+
+  pub release-unique : ReleasePacked b jobs j m role x r → ReleasePacked b jobs j m role y s → (x ≡ y) × (r ≡ s)
+  release-unique p q = let k = J.answer-unique (release b j m role) jobs (p .1) (q .1) in (k .1, p .2 ∙ ap (λ (n : ℕ). answer n 0 0) (k .0) ∙ sym (q .2))
+
+pub job-unique : (jobs : Jobs) (j : ℕ) {r s : ℕ} → JobPacked jobs j r → JobPacked jobs j s → r ≡ s
+job-unique jobs j p q =
+    let k = J.look-unique jobs j (p .1 .1) (q .1 .1) in
+    p .1 .2 ∙ ap₂ (λ (n : ℕ) (z : State). answer n 0 (oneIfHeld z) + 4294967296 * memberOr0 z) (k .0) (k .1) ∙ sym (q .1 .2)
