@@ -2,7 +2,8 @@
  *
  * Each call decides by itself and changes the list in the same step; a refusal leaves the list as it was. So of two
  * members who claim one job one is told 14, whatever either of them looked up before. The list and the board are the
- * caller's: whoever has several threads or processes lets one call at a time have the list.
+ * caller's: whoever has several threads or processes lets one call at a time have the list. Of pointers it asks what
+ * board.h asks: the list may overlap neither the board nor `roles`.
  *
  *     struct jobs list;
  *     const uint8_t roles[] = { 5, 5, 7 };                         // jobs 0 and 1 under role 5, job 2 under role 7
