@@ -1,23 +1,23 @@
 -- From the board's answer to the list's: what the proofs of the functions cite. Assumes nothing.
 use mathlib.Core.Path.{_≡_, refl, sym, ap, ap₂, _∙_, subst}
-use mathlib.Core.Bool.{Bool, true, false, cond, not, _&&_}
+use mathlib.Core.Bool.{Bool, true, false, cond, not}
 use mathlib.Core.Logic.{_⊎_, inr, _≢_, ⊎-elim, _↔_}
-use mathlib.Core.List.{List, [], _∷_, _++_}
+use mathlib.Core.List.{List, _++_}
 use Prim.Native.Nat.{ℕ, zero, suc, _+_, _-_, _≤_, _<_}
 use native.Mathlib.Omega.{arith}
 use lib.Dec.{eqb, ltb}
 use lib.ListN.{length, getD, set, take, drop, replicate}
 use lib.Seq.{take-suc, drop-cons, append-snoc, set-at, length-take-le}
-use borrow.Author.Tests.{eqb-true, eqb-false, eq-eqb, ne-eqb, lt-ltb, le-ltb}
+use borrow.Author.Tests.{eqb-true, eq-eqb, ne-eqb, lt-ltb, le-ltb}
 use Rattle.sets.proofs.Bools.{and-both, and-right, false-no, lt-or-ge}
 use Rattle.hierarchy.specs.Words.{Derives, Scope}
 use Rattle.hierarchy.specs.First.{First}
 use Rattle.hierarchy.proofs.FirstLaws.{hit, pass, none}
 use Rattle.board.specs.Boards.{tablesOf}
-use Rattle.board.specs.Questions.{refusals, Says, DerivesAnswer, ScopeAnswer}
+use Rattle.board.specs.Questions.{refusals, DerivesAnswer, ScopeAnswer}
 use Rattle.board.specs.declared.Board.{Board}
 use Rattle.board.proofs.Rules.{Passed, first-done, first-refused, first-next}
-use Rattle.jobs.specs.Lists.{Jobs, jobsOf, roleAt, roleOf, Open, Held, HeldBy, taken, freed}
+use Rattle.jobs.specs.Lists.{Jobs, jobsOf, roleAt, roleOf, Open, Held}
 use Rattle.jobs.specs.Answers.{Fits, StartAnswer, onBoard, Settles, ClaimAnswer, ReleaseAnswer}
 
 -- ---- the start
@@ -39,13 +39,13 @@ drop-replicate (suc k) zero a l = absurd (omega (arith, l))
 drop-replicate (suc k) (suc n) a l = drop-replicate k n a (omega arith) ∙ ap (λ (m : ℕ). replicate m a) {x = n - k} {y = suc n - suc k} (omega arith)
 
 -- a start that is refused, and one that is done
-pub start-refused : {listed roles marks members : List ℕ} → (Fits listed → ⊥) → roles ≡ replicate 1024 64 → marks ≡ replicate 1024 0 → members ≡ replicate 1024 0
+pub starts-empty : {listed roles marks members : List ℕ} → (Fits listed → ⊥) → roles ≡ replicate 1024 64 → marks ≡ replicate 1024 0 → members ≡ replicate 1024 0
     → StartAnswer listed 2 (jobsOf roles marks members)
-start-refused n u v w = record { numbered = hit _ _ _ n; done = λ k. absurd (omega (arith, k)); refused = λ _. rw (u, v, w) refl }
+starts-empty n u v w = record { numbered = hit _ _ _ n; done = λ k. absurd (omega (arith, k)); refused = λ _. rw (u, v, w) refl }
 
-pub start-done : {listed roles marks members : List ℕ} → Fits listed → roles ≡ listed ++ drop (length listed) (replicate 1024 64) → marks ≡ replicate 1024 0
+pub starts : {listed roles marks members : List ℕ} → Fits listed → roles ≡ listed ++ drop (length listed) (replicate 1024 64) → marks ≡ replicate 1024 0
     → members ≡ replicate 1024 0 → StartAnswer listed 0 (jobsOf roles marks members)
-start-done {listed} f u v w = record {
+starts {listed} f u v w = record {
   numbered = pass _ _ _ _ (λ n. n f) none;
   done = λ _. rw (u, v, w, drop-replicate (length listed) 1024 64 (f .few)) refl;
   refused = λ k. absurd (k refl);

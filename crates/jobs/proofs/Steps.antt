@@ -4,9 +4,9 @@ use mathlib.Core.Path.{_≡_, refl, sym, ap, ap₂, _∙_, subst}
 use mathlib.Core.Bool.{Bool, true, false, not, _&&_}
 use mathlib.Core.Logic.{⊎-elim, _≢_, dite}
 use mathlib.Core.List.{List}
-use Prim.Native.Nat.{ℕ, _<_}
+use Prim.Native.Nat.{ℕ}
 use native.Mathlib.Decide.{ℕ-discrete}
-use lib.Dec.{eqb, ltb}
+use lib.Dec.{eqb}
 use lib.ListN.{length, getD, set, length-set}
 use lib.Seq.{getD-set-same, getD-set-other}
 use borrow.Author.Tests.{eqb-true, eqb-false, ltb-true, eq-eqb, ne-eqb}
@@ -14,9 +14,10 @@ use Rattle.sets.proofs.Bools.{true-or-false, false-no, and-left}
 use Rattle.hierarchy.specs.First.{First}
 use Rattle.board.proofs.Rules.{first-done}
 use Rattle.board.specs.declared.Board.{Board}
-use Rattle.jobs.specs.Lists.{Jobs, jobsOf, roleAt, isListed, isHeld, Held, Open, HeldBy, taken, freed}
+use Rattle.jobs.specs.Lists.{Jobs, jobsOf, roleOf, isListed, isHeld, Held, Open, HeldBy, taken, freed}
 use Rattle.jobs.specs.Answers.{claimRefusals, releaseRefusals, Settles}
 use Rattle.jobs.specs.Histories.{Event, Event.claim, Event.release, Entry, EventAnswer, claims, releases, claimOf, releaseOf, memberOf}
+use Rattle.jobs.proofs.Deciding.{placed}
 
 -- what no event changes: the roles, and that the other rows have 1,024 places
 pub record Whole (roles : List ℕ) (jobs : Jobs) : Type 0 where
@@ -41,11 +42,6 @@ open-not-held true true e = refl
 open-not-held true false e = sym e
 open-not-held false q e = refl
 
--- a job that is listed has its place in the rows
-listed-small : (roles : List ℕ) (j : ℕ) → ltb (roleAt roles j) 64 ≡ true → j < 1024
-unfolding roleAt
-listed-small roles j e = ⊎-elim (λ p. ltb-true j 1024 p) (λ p. absurd (false-no (rw p) e)) (true-or-false (ltb j 1024))
-
 -- ---- place k of both rows is written to
 
 abbrev written : Jobs → ℕ → ℕ → ℕ → Jobs
@@ -57,7 +53,7 @@ whole-written {jobs = jobs} k u v w = record { listed-as = w .listed-as; marks-l
 -- the job itself is held where the mark isn't 0,
 module _ {roles : List ℕ} {jobs : Jobs} (w : Whole roles jobs) (k u v : ℕ) (l : isListed jobs k ≡ true) where
   place : (row : List ℕ) (x : ℕ) → length row ≡ 1024 → getD (set row k x) k 0 ≡ x
-  place row x e = getD-set-same row k x 0 (rw e (listed-small (jobs .roles) k l))
+  place row x e = getD-set-same row k x 0 (rw e (placed (jobs .roles) k (ltb-true (roleOf jobs k) 64 l)))
 
   itself : isHeld (written jobs k u v) k ≡ not (eqb u 0)
   itself = ap₂ (λ (p : Bool) (x : ℕ). p && not (eqb x 0)) l (place (jobs .marks) u (w .marks-long))

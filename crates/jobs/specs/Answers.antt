@@ -1,8 +1,8 @@
 -- What a start, a claim, a release and a look at a job answer, and what they leave of the list.
 use mathlib.Core.Path.{_≡_}
-use mathlib.Core.Logic.{_⊎_, _≢_}
+use mathlib.Core.Logic.{_≢_}
 use mathlib.Core.List.{List, [], _∷_, _++_}
-use Prim.Native.Nat.{ℕ, _+_, _-_, _≤_, _<_}
+use Prim.Native.Nat.{ℕ, _-_, _≤_, _<_}
 use lib.ListN.{length, getD, replicate}
 use Rattle.hierarchy.specs.Words.{Derives, Scope}
 use Rattle.hierarchy.specs.First.{First}

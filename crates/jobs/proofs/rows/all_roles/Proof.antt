@@ -1,5 +1,5 @@
 use native.Mathlib.Omega.{arith}
-use mathlib.Core.Path.{_≡_, refl, sym}
+use mathlib.Core.Path.{_≡_, refl}
 use mathlib.Core.Logic.{⊎-elim}
 use Rattle.sets.proofs.Bools.{false-no, lt-or-ge}
 use Prim.Native.Nat.{ℕ, _-_, _<_}
