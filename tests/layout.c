@@ -1,7 +1,8 @@
-/* Where the fields of the two records stand, and that the subject reads each there.
+/* Where the fields of the three records stand, and that the subject reads each there.
  *
  * The commands that are done hold different numbers and sets, so that one read from another's place gives another
- * answer. Then each number is wrong alone, and the refusal is its own. The board's fields are spoilt one by one, too. */
+ * answer. Then each number is wrong alone, and the refusal is its own. The board's fields are spoilt one by one, too. A job list
+ * is looked at as bytes. */
 #include "calls.h"
 #include <stdio.h>
 #include <string.h>
@@ -13,6 +14,8 @@ AT(board, derives, 1032); AT(board, derivers, 1544); AT(board, manager, 2056); A
 AT(command, code, 0); AT(command, actor, 4); AT(command, role, 8); AT(command, junior, 12); AT(command, kind, 16); AT(command, rights, 20);
 AT(command, a_seniors, 24); AT(command, i_seniors, 32); AT(command, a_juniors, 40); AT(command, i_juniors, 48);
 _Static_assert(sizeof(struct command[3]) == 168, "commands in a row");
+_Static_assert(sizeof(struct jobs) == 6144 && JOBS_MOST == 1024, "size of a job list");
+AT(jobs, role, 0); AT(jobs, mark, 1024); AT(jobs, member, 2048);
 
 enum { ROOM = 52 };
 struct state {
@@ -87,6 +90,81 @@ static void reads_and_writes(const struct state *s)
     calls += 2;
 }
 
+/* ---- the job list, byte by byte */
+
+enum { LIST = 6144 };
+union list {
+    struct jobs jobs;
+    uint8_t byte[LIST];
+};
+
+static void same_list(const union list *list, const union list *want, const char *what)
+{
+    calls++;
+    if (memcmp(list->byte, want->byte, LIST) != 0) complain(what);
+}
+
+/* Every place is listed, under a role that nobody acts in, and held; the one place differs. */
+static void claims_and_releases(unsigned job)
+{
+    const struct board *b = &before.board;
+    const uint32_t member = 0x04030201;
+    static union list list, want;
+    memset(list.byte, 8, 1024);
+    memset(list.byte + 1024, 3, 1024);
+    memset(list.byte + 2048, 0xee, 4096);
+    list.byte[job] = 6, list.byte[1024 + job] = 0;
+    want = list;
+    /* 1 doesn't derive 6, as 4 does; other jobs are held, and by another */
+    if (subject.jobs_claim(&list.jobs, b, job, member, 1) != 15) complain("a claim in role 1");
+    if (subject.jobs_release(&list.jobs, b, job, 0xeeeeeeee, 1) != 14) complain("a release of an open job");
+    if (subject.jobs_claim(&list.jobs, b, (job + 1) % 1024, member, 3) != 14) complain("a claim of a held job");
+    if (subject.jobs_job(&list.jobs, (job + 1) % 1024) != (1ull << 16 | 0xeeeeeeeeull << 32)) complain("a held job");
+    if (subject.jobs_job(&list.jobs, job) != 0) complain("an open job");
+    same_list(&list, &want, "the list after refusals");
+    if (subject.jobs_claim(&list.jobs, b, job, member, 4) != 0) complain("a claim");
+    want.byte[1024 + job] = 1;
+    for (int k = 0; k < 4; k++) want.byte[2048 + 4 * job + k] = 1 + k; /* the lowest byte first */
+    same_list(&list, &want, "the list after a claim");
+    if (subject.jobs_job(&list.jobs, job) != (1ull << 16 | (uint64_t)member << 32)) complain("a claimed job");
+    if (subject.jobs_release(&list.jobs, b, job, 0xeeeeeeee, 1) != 15) complain("a release by another");
+    same_list(&list, &want, "the list after a refusal");
+    if (subject.jobs_release(&list.jobs, b, job, member, 1) != 0) complain("a release");
+    want.byte[1024 + job] = 0;
+    memset(want.byte + 2048 + 4 * job, 0, 4);
+    same_list(&list, &want, "the list after a release");
+    list.byte[job] = want.byte[job] = 64;
+    if (subject.jobs_claim(&list.jobs, b, job, member, 4) != 2) complain("a claim past the list");
+    if (subject.jobs_job(&list.jobs, job) != 2) complain("a job past the list");
+    same_list(&list, &want, "the list after a refusal");
+    calls += 10;
+}
+
+static void starts(size_t n, uint8_t last, uint64_t answer)
+{
+    static union list list, want;
+    static uint8_t roles[1025];
+    memset(list.byte, 0xee, LIST);
+    memset(want.byte, 0, LIST);
+    memset(want.byte, 64, 1024);
+    for (size_t j = 0; j < n; j++) roles[j] = j % 64;
+    if (n > 0) roles[n - 1] = last;
+    if (answer == 0) memcpy(want.byte, roles, n);
+    if (subject.jobs_start(&list.jobs, roles, n) != answer) complain("a start");
+    same_list(&list, &want, "the list after a start");
+}
+
+/* A list with one open job and one held, on a board that isn't sound. */
+static void jobs_give_1(const struct board *b, const char *what)
+{
+    static union list list, want;
+    list.byte[0] = list.byte[1] = 6, list.byte[1025] = 1, want = list;
+    if (subject.jobs_claim(&list.jobs, b, 0, 0, 4) != 1) complain(what);
+    if (subject.jobs_release(&list.jobs, b, 1, 0, 4) != 1) complain(what);
+    same_list(&list, &want, what);
+    calls++;
+}
+
 static void gives_1(struct board b, int field)
 {
     static const char *const name[] = {"live", "i", "a", "derives", "derivers", "manager", "rights"};
@@ -95,6 +173,8 @@ static void gives_1(struct board b, int field)
     uint8_t out[ROOM] = {0}, none[ROOM] = {0};
     if (subject.apply(&b, &change) != 1 || memcmp(&b, &was, sizeof b) != 0) complain(name[field]);
     if (subject.write(&b, out, sizeof out, 0) != 1 || memcmp(out, none, sizeof out) != 0) complain(name[field]);
+    jobs_give_1(&b, name[field]);
+    if (memcmp(&b, &was, sizeof b) != 0) complain(name[field]);
     calls += 2;
 }
 
@@ -190,6 +270,11 @@ int main(void)
     struct board b = before.board;
     if (subject.found(&b) != 0 || memcmp(&b, &founding.board, sizeof b) != 0) complain("the founding board");
     calls++;
+
+    static const unsigned place[] = {0, 1, 2, 254, 255, 256, 257, 511, 512, 767, 768, 1022, 1023};
+    for (size_t k = 0; k < sizeof place / sizeof place[0]; k++) claims_and_releases(place[k]);
+    starts(0, 0, 0), starts(1, 63, 0), starts(300, 63, 0), starts(1023, 5, 0), starts(1024, 63, 0);
+    starts(1, 64, 2), starts(300, 255, 2), starts(1024, 64, 2), starts(1025, 5, 2);
 
     /* role 0 not live, an entry, member or right too much in the last row, another manager in the last place */
     for (int field = 0; field < 7; field++) {

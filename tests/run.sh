@@ -4,6 +4,7 @@
 #   tests/run.sh sample | full       the records' layout, then the model against the library
 #   tests/run.sh layout              the records' layout alone
 #   tests/run.sh replay FILE         the case lines that a disagreement printed ("-": standard input)
+#   tests/run.sh history N           one of the job list's histories again, by its number
 #   tests/run.sh mutations           the broken models of mutations.txt: the comparison must notice each
 #   tests/run.sh bench | stack       what a call costs, in time and in stack
 #   tests/run.sh instructions        and in instructions, where the emulator runs it: it counts them one by one
@@ -14,6 +15,7 @@
 # SUBJECT=plain  the plain C in the library's place, compiled for this machine
 # SUBJECT=cross  the same, compiled and run as the library is
 # SEED=N         of the comparison (default 1)
+# FROM=N         in mutations: only those from this number on
 # PLAIN=walks    in bench: the plain C by a walk from each role, another algorithm
 # BUILD=DIR      for what is built (default target/tests)
 set -eu
@@ -162,7 +164,7 @@ try_mutation() { # NUMBER WHAT FILE OLD NEW
 }
 
 mutations() {
-    count=0 caught=0 what='' file='' old=''
+    count=0 tried=0 caught=0 from=${FROM:-1} what='' file='' old=''
     while IFS= read -r line; do
         case $line in
         'what: '*) what=${line#what: } ;;
@@ -170,12 +172,14 @@ mutations() {
         'old: '*) old=${line#old: } ;;
         'new: '*)
             count=$((count + 1))
+            [ "$count" -ge "$from" ] || continue
+            tried=$((tried + 1))
             try_mutation "$count" "$what" "$file" "$old" "${line#new: }"
             ;;
         esac
     done <"$here/mutations.txt"
-    say "$caught of $count mutations noticed"
-    [ "$count" -gt 0 ] && [ "$caught" -eq "$count" ]
+    say "$caught of $tried mutations noticed"
+    [ "$tried" -gt 0 ] && [ "$caught" -eq "$tried" ]
 }
 
 # ---- what to do
@@ -197,6 +201,12 @@ replay)
     tools
     build_compare "$build/compare"
     run "$build/compare" --replay "$2"
+    ;;
+history)
+    [ $# -eq 2 ] || die "usage: tests/run.sh history N"
+    tools
+    build_compare "$build/compare"
+    run "$build/compare" --history "$2" --seed "$seed"
     ;;
 mutations)
     tools

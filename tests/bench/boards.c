@@ -1,4 +1,5 @@
 #include "boards.h"
+#include <stdbool.h>
 #include <stdio.h>
 #include <stdlib.h>
 #include <string.h>
@@ -143,7 +144,9 @@ const char *const deed_name[DEEDS] = {"apply, done", "apply, refused 6", "apply,
                                       "steps",       "stretch",          "read",             "write",
                                       "apply, barred", "scope, barred",  "apply, given",     "apply, refused 13",
                                       "command, given", "view, stored",  "view, by calls",  "run of 30",
-                                      "30 by apply"};
+                                      "30 by apply", "claim, done",      "claim, taken 14",  "claim, 15",
+                                      "release, holder", "release, other", "release, 15",   "start of 1,024",
+                                      "job"};
 
 const struct table tables[TABLES] = {
     {"Each call", 4, CALLS, {FOUNDING, TREE_20, CHAIN_64, FULL},
@@ -153,6 +156,9 @@ const struct table tables[TABLES] = {
     {"With rights, and so HR files", 3, 5, {TREE_20_HR, CHAIN_64_HR, FULL_HR}, {GIVEN, REFUSED_13, GIVEN_COMMAND, READ, WRITE}},
     {"The tree view", 3, 2, {CHAIN_64, TREE_64, FULL}, {VIEW_STORED, VIEW_BY_CALLS}},
     {"An evening of thirty commands", 3, 2, {TREE_20, CHAIN_64, FULL}, {EVENING_RUN, EVENING_APPLIED}},
+    {"The job list", 4, 4, {FOUNDING, TREE_20, CHAIN_64, FULL}, {CLAIM_DONE, CLAIM_14, GIVEN_BACK, TAKEN_BACK}},
+    {"The job list, by who may not", 3, 2, {TREE_20, CHAIN_64, FULL}, {CLAIM_15, RELEASE_15}},
+    {"The job list without a board", 1, 2, {FOUNDING}, {LIST_START, LIST_JOB}},
 };
 
 /* That the answers are right is the comparison's business; here it is enough that a call did what is measured. */
@@ -225,6 +231,34 @@ static void evening(const struct sample *s, struct command c[THIRTY], uint8_t nu
     for (int k = 0; k < THIRTY; k++) c[k] = ten[k % 10].command, number[k] = ten[k % 10].number;
 }
 
+/* Each claim and each release that is done has a job of its own. After 1,024 of them the list is as it was again, by a copy,
+ * which is nothing beside so many calls: so all that is timed is claims, or releases, and no call has to undo another. */
+static void on_jobs(enum deed deed, const struct calls *c, struct sample *s, long times)
+{
+    static struct jobs list, fresh;
+    static uint8_t roles[JOBS_MOST];
+    const struct board *b = &s->board;
+    const unsigned last = s->last, manager = last == 0 ? 0 : b->manager[last];
+    const bool held = deed != CLAIM_DONE && deed != CLAIM_15 && deed != LIST_START;
+    memset(roles, deed == CLAIM_15 || deed == RELEASE_15 ? 0 : last, sizeof roles);
+    plain_jobs_start(&fresh, roles, JOBS_MOST);
+    for (int j = 0; j < JOBS_MOST && held; j++) fresh.mark[j] = 1, fresh.member[j] = 1;
+    for (long k = 0; k < times; k++) {
+        const uint32_t job = k % JOBS_MOST;
+        if (job == 0) list = fresh;
+        switch (deed) {
+        case CLAIM_DONE: expect(deed, s, c->jobs_claim(&list, b, job, 1, manager), 0); break;
+        case CLAIM_14: expect(deed, s, c->jobs_claim(&list, b, job, 2, manager), 14); break;
+        case CLAIM_15: expect(deed, s, c->jobs_claim(&list, b, job, 1, last), 15); break;
+        case GIVEN_BACK: expect(deed, s, c->jobs_release(&list, b, job, 1, last), 0); break;
+        case TAKEN_BACK: expect(deed, s, c->jobs_release(&list, b, job, 2, manager), 0); break;
+        case RELEASE_15: expect(deed, s, c->jobs_release(&list, b, job, 2, last), 15); break;
+        case LIST_START: expect(deed, s, c->jobs_start(&list, roles, JOBS_MOST), 0); break;
+        default: expect(deed, s, c->jobs_job(&list, job), 0); break;
+        }
+    }
+}
+
 #define REPEAT(call, number)                                                                                           \
     for (long k = 0; k < times; k++) expect(deed, s, call, number)
 
@@ -286,6 +320,14 @@ long perform(enum deed deed, const struct calls *c, struct sample *s, long times
             for (int n = 0; n < THIRTY; n++) expect(deed, s, answers[n], numbers[n]);
         }
         return THIRTY * times;
+    case CLAIM_DONE:
+    case CLAIM_14:
+    case CLAIM_15:
+    case GIVEN_BACK:
+    case TAKEN_BACK:
+    case RELEASE_15:
+    case LIST_START:
+    case LIST_JOB: on_jobs(deed, c, s, times); break;
     default:
         evening(s, thirty, numbers);
         for (long k = 0; k < times; k++)

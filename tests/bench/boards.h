@@ -25,11 +25,15 @@ void choose(struct sample *s, int board);
  * on scope, with many roles in the way. Given is a right, and then taken back; 13 is found when all that the actor derives has
  * been looked at. A view is the line manager and the steps of all live roles: from one board that is
  * read, or by two calls on the file for each role. An evening is thirty commands, done and refused, that leave the board as it
- * was: given as one run, or one by one. */
+ * was: given as one run, or one by one.
+ *
+ * Jobs are listed under the role farthest from 0. They are claimed in its line manager's role, or found taken, which is 14; given
+ * back by the holder in that role itself; and taken back by another in its line manager's role. A 15 is a claim, or another's
+ * release, in that role, of a job under role 0. */
 enum deed {
     DONE, REFUSED_6, REFUSED_7, COMMAND, CHECK, DERIVES, SCOPE, MANAGER, STEPS, STRETCH, READ, WRITE, CALLS,
     BARRED_6 = CALLS, BARRED_SCOPE, GIVEN, REFUSED_13, GIVEN_COMMAND, VIEW_STORED, VIEW_BY_CALLS,
-    EVENING_RUN, EVENING_APPLIED, DEEDS
+    EVENING_RUN, EVENING_APPLIED, CLAIM_DONE, CLAIM_14, CLAIM_15, GIVEN_BACK, TAKEN_BACK, RELEASE_15, LIST_START, LIST_JOB, DEEDS
 };
 extern const char *const deed_name[DEEDS];
 /* Does it so many times, and returns the number of calls, or of views, or of commands in the evenings. Ends the program where an answer isn't the right one. */
@@ -41,7 +45,7 @@ struct table {
     int boards, deeds, board[4];
     enum deed deed[CALLS];
 };
-enum { EACH_CALL, NUMBERED, BARRED, WITH_RIGHTS, VIEWS, EVENINGS, TABLES };
+enum { EACH_CALL, NUMBERED, BARRED, WITH_RIGHTS, VIEWS, EVENINGS, JOBS, JOBS_15, LISTS, TABLES };
 extern const struct table tables[TABLES];
 
 #endif

@@ -15,7 +15,7 @@ static void list(void)
         for (int k = 0; k < t->boards * t->deeds; k++) {
             int board = t->board[k / t->deeds], deed = t->deed[k % t->deeds];
             if (deed == VIEW_BY_CALLS && board == FULL) continue;
-            printf("%d %d %s\n", board, deed, deed < VIEW_STORED ? "2 1" : "1 0");
+            printf("%d %d %s\n", board, deed, deed < VIEW_STORED || deed >= CLAIM_DONE ? "2 1" : "1 0");
         }
     }
 }

@@ -50,6 +50,20 @@ static uint64_t noted_run(struct board *b, const struct command *commands, size_
     return NOTED->run(b, commands, n, answers, m);
 }
 
+static uint64_t noted_jobs_start(struct jobs *list, const uint8_t *roles, size_t n)
+{
+    return NOTED->jobs_start(list, roles, n);
+}
+static uint64_t noted_jobs_claim(struct jobs *list, const struct board *b, uint32_t job, uint32_t member, uint32_t role)
+{
+    return NOTED->jobs_claim(list, b, job, member, role);
+}
+static uint64_t noted_jobs_release(struct jobs *list, const struct board *b, uint32_t job, uint32_t member, uint32_t role)
+{
+    return NOTED->jobs_release(list, b, job, member, role);
+}
+static uint64_t noted_jobs_job(const struct jobs *list, uint32_t job) { return NOTED->jobs_job(list, job); }
+
 static const struct calls noted = CALLS(noted);
 
 /* ---- a call on the painted stack */
@@ -102,5 +116,8 @@ int main(int argc, char **argv)
     rows(&tables[EACH_CALL], "");
     rows(&tables[WITH_RIGHTS], ", HR");
     rows(&tables[EVENINGS], "");
+    rows(&tables[JOBS], "");
+    rows(&tables[JOBS_15], "");
+    rows(&tables[LISTS], "");
     return 0;
 }

@@ -10,7 +10,8 @@
 static const struct calls subject = CALLS_OF(SUBJECT);
 
 const char *const call_name[CALL_COUNT] = {"apply", "command", "check",   "derives", "scope", "manager",
-                                           "steps", "stretch", "found",   "read",    "write", "run"};
+                                           "steps", "stretch", "found",   "read",    "write", "run",
+                                           "start", "claim",   "release", "job"};
 
 /* The case in hand, for messages. */
 static struct {
@@ -24,10 +25,12 @@ static struct {
     uint32_t x, y;
 } now;
 
+void in_hand(enum call call) { now.call = call; }
+
 /* ---- the line that replays a case */
 
 /* Rows that are empty, managers that are none and rights that are none are left out. */
-static void print_board(const struct board *b)
+void print_board(const struct board *b)
 {
     printf(" live=%llx", (unsigned long long)b->live);
     for (int x = 0; x < ROLES; x++) {
@@ -51,8 +54,10 @@ static bool on_board(enum call call) { return call == APPLY || call == WRITE || 
 
 static void print_case(void)
 {
+    print_history();
     printf("replay: %s", call_name[now.call]);
-    if (on_board(now.call)) print_board(now.board);
+    if (now.call >= START) print_job_case();
+    else if (on_board(now.call)) print_board(now.board);
     else if (now.call != FOUND) {
         printf(" file=");
         for (size_t k = 0; k < now.len; k++) printf("%02x", now.file[k]);
@@ -95,7 +100,7 @@ void watch_for_crashes(void)
 
 /* ---- memory lent to the subject */
 
-enum { WALL = 65536, GUARD = 64 }; /* a wall is as long as the longest page of a kernel we may meet */
+enum { WALL = 65536 }; /* a wall is as long as the longest page of a kernel we may meet */
 
 /* Unreadable memory, with memory before it that can be lent. */
 static uint8_t *build_wall(void)
@@ -107,17 +112,15 @@ static uint8_t *build_wall(void)
     return wall;
 }
 
-/* Copies that end where unreadable memory begins. */
-enum lending { THE_FILE, THE_COMMAND, THE_BOARD, THE_COMMANDS, THE_ROW, LENDINGS };
-static void *lend(enum lending what, const void *from, size_t len)
+void *lend(enum lending what, const void *from, size_t len)
 {
     static uint8_t *wall[LENDINGS];
     if (wall[what] == NULL) wall[what] = build_wall();
     return memcpy(wall[what] - len, from, len);
 }
 
-/* What memory holds before a call: any pattern serves that a byte moved or cleared would break. */
-static void paint(uint8_t *at, size_t len)
+/* Any pattern serves that a byte moved or cleared would break. */
+void paint(uint8_t *at, size_t len)
 {
     static uint8_t pattern[GUARD + ROOM + GUARD];
     for (size_t k = 0; pattern[0] == 0 && k < sizeof pattern; k++) pattern[sizeof pattern - 1 - k] = 11 + 37 * k;
@@ -290,14 +293,13 @@ static void same_board(const struct lent_board *lent, const struct lent_board *w
     if (memcmp(lent, want, sizeof *want) != 0) disagree("bytes before the board were touched");
 }
 
-uint8_t try_apply(const struct view *v, const struct board *b, const struct command *c, struct view *after)
+uint8_t apply_uncounted(const struct view *v, const struct board *b, const struct command *c, struct view *after)
 {
     static struct lent_board want;
     const struct command *command = lend(THE_COMMAND, c, sizeof *c);
 
     now.call = APPLY, now.board = b, now.command = c;
     tally.calls++;
-    tally.commands++;
     paint((uint8_t *)&want, sizeof want);
     want.board = *b;
     struct lent_board *lent = lend(THE_BOARD, &want, sizeof want);
@@ -309,10 +311,16 @@ uint8_t try_apply(const struct view *v, const struct board *b, const struct comm
     if (said != answer) disagree("answer %#llx, the model %#llx", said, answer);
     same_board(lent, &want, number);
     if (memcmp(command, c, sizeof *c) != 0) disagree("the command was touched");
+    return number;
+}
 
+uint8_t try_apply(const struct view *v, const struct board *b, const struct command *c, struct view *after)
+{
+    uint8_t number = apply_uncounted(v, b, c, after);
+    tally.commands++;
     tally_command(APPLY, v, c, number);
     tally.apply[code_class(c)][number]++;
-    if (number == 0 && c->code == CHANGE_EDGE && memcmp(b, &want.board, sizeof *b) == 0) tally.idle_change++;
+    if (number == 0 && c->code == CHANGE_EDGE && v->board.kind[c->role][c->junior] == c->kind) tally.idle_change++;
     if (number == 7 && c->code == ADD_EDGE && !v->derives[c->junior][c->role]) tally.hidden_loop++;
     return number;
 }
@@ -527,26 +535,34 @@ static bool read_command(const char *word, struct command *c)
     return true;
 }
 
+bool read_board_word(const char *w, struct board *b)
+{
+    unsigned long long set;
+    unsigned row;
+    if (sscanf(w, "live=%llx", &set) == 1) b->live = set;
+    else if (sscanf(w, "i%u=%llx", &row, &set) == 2 && row < ROLES) b->i[row] = set;
+    else if (sscanf(w, "a%u=%llx", &row, &set) == 2 && row < ROLES) b->a[row] = set;
+    else if (sscanf(w, "down%u=%llx", &row, &set) == 2 && row < ROLES) b->derives[row] = set;
+    else if (sscanf(w, "up%u=%llx", &row, &set) == 2 && row < ROLES) b->derivers[row] = set;
+    else if (sscanf(w, "m%u=%llu", &row, &set) == 2 && row < ROLES) b->manager[row] = set;
+    else if (sscanf(w, "r%u=%llu", &row, &set) == 2 && row < ROLES) b->rights[row] = set;
+    else return false;
+    return true;
+}
+
 /* APPLY, WRITE or RUN. */
 static void replay_board(enum call call, char *words)
 {
     static struct board b;
     static struct view v, after;
     static struct command c[RUN_MOST + 1]; /* the last is written and not given */
-    unsigned long long set, fill = 0;
-    unsigned row;
+    unsigned long long fill = 0;
     size_t room = 0, at = 0, commands = 0, places = 0;
     memset(&b, 0, sizeof b);
     memset(b.manager, NONE, sizeof b.manager);
     for (char *w = strtok(words, " \n"); w != NULL; w = strtok(NULL, " \n")) {
-        if (sscanf(w, "live=%llx", &set) == 1) b.live = set;
-        else if (sscanf(w, "i%u=%llx", &row, &set) == 2 && row < ROLES) b.i[row] = set;
-        else if (sscanf(w, "a%u=%llx", &row, &set) == 2 && row < ROLES) b.a[row] = set;
-        else if (sscanf(w, "down%u=%llx", &row, &set) == 2 && row < ROLES) b.derives[row] = set;
-        else if (sscanf(w, "up%u=%llx", &row, &set) == 2 && row < ROLES) b.derivers[row] = set;
-        else if (sscanf(w, "m%u=%llu", &row, &set) == 2 && row < ROLES) b.manager[row] = set;
-        else if (sscanf(w, "r%u=%llu", &row, &set) == 2 && row < ROLES) b.rights[row] = set;
-        else if (read_command(w, &c[commands])) commands += commands < RUN_MOST;
+        if (read_board_word(w, &b)) continue;
+        if (read_command(w, &c[commands])) commands += commands < RUN_MOST;
         else if (sscanf(w, "places=%zu", &places) == 1 || sscanf(w, "fill=%llx", &fill) == 1) continue;
         else if (sscanf(w, "room=%zu", &room) != 1) sscanf(w, "at=%zu", &at);
     }
@@ -598,6 +614,7 @@ int replay(const char *name)
             size_t len = strlen(call_name[call]);
             if (strncmp(word, call_name[call], len) != 0 || strchr(" \n", word[len]) == NULL) continue;
             if (call == FOUND) try_found(), printf("agreed: found\n");
+            else if (call >= START) replay_job(call, word + len);
             else if (on_board(call)) replay_board(call, word + len);
             else replay_file(call, word + len);
             cases++;

@@ -1,6 +1,7 @@
 /* Runs the model against the subject until enough commands and files have been tried.
  *
  *   compare --sample | --full [--seed N] [--no-examples]
+ *   compare --history N [--seed N]   one of the job list's histories alone
  *   compare --replay FILE        the line that a disagreement printed
  *   compare --examples
  *
@@ -11,9 +12,9 @@
 #include <string.h>
 
 struct size {
-    long commands, files, least; /* least: of every class */
+    long commands, files, histories, least; /* least: of every class */
 };
-static const struct size sample = {12000, 4200, 8}, full = {1000000, 300000, 1000};
+static const struct size sample = {12000, 4200, 60, 8}, full = {1000000, 300000, 1200, 1000};
 
 /* ---- commands on boards */
 
@@ -606,10 +607,20 @@ static int run(const struct size *size, uint64_t seed)
         if (round % 2 == 0) largest_boards();
         if (round == 0) deepest_board();
     }
+    for (long number = 0; number < size->histories; number++) history(seed, number);
     int wanting = print_tally(size->least);
-    printf("\nseed %llu: %ld commands, %ld more in runs, %ld files, %ld calls in all, 0 disagreements, %d classes wanting\n",
-           (unsigned long long)seed, tally.commands, tally.in_runs, tally.files, tally.calls, wanting);
+    printf("\nseed %llu: %ld commands, %ld more in runs, %ld files, %ld claims and releases in %ld histories, %ld calls in all, "
+           "0 disagreements, %d classes wanting\n",
+           (unsigned long long)seed, tally.commands, tally.in_runs, tally.files, tally.events, tally.histories, tally.calls,
+           wanting);
     return wanting == 0 ? 0 : 3;
+}
+
+static int one_history(uint64_t seed, long number)
+{
+    history(seed, number);
+    printf("agreed: history %ld of seed %llu, %ld claims and releases\n", number, (unsigned long long)seed, tally.events);
+    return 0;
 }
 
 static int examples(void)
@@ -627,6 +638,7 @@ int main(int argc, char **argv)
     const struct size *size = NULL;
     bool with_examples = true;
     uint64_t seed = 1;
+    long number = -1;
     setvbuf(stdout, NULL, _IOLBF, 0);
     watch_for_crashes();
     for (int k = 1; k < argc; k++) {
@@ -634,12 +646,15 @@ int main(int argc, char **argv)
         else if (strcmp(argv[k], "--full") == 0) size = &full;
         else if (strcmp(argv[k], "--no-examples") == 0) with_examples = false;
         else if (strcmp(argv[k], "--seed") == 0 && k + 1 < argc) seed = strtoull(argv[++k], NULL, 10);
+        else if (strcmp(argv[k], "--history") == 0 && k + 1 < argc) number = strtol(argv[++k], NULL, 10);
         else if (strcmp(argv[k], "--replay") == 0 && k + 1 < argc) return replay(argv[k + 1]);
         else if (strcmp(argv[k], "--examples") == 0) return examples();
         else size = NULL, k = argc;
     }
+    if (size == NULL && number >= 0) return one_history(seed, number);
     if (size == NULL) {
-        fprintf(stderr, "usage: compare --sample | --full [--seed N] [--no-examples] | --replay FILE | --examples\n");
+        fprintf(stderr, "usage: compare --sample | --full [--seed N] [--no-examples] | --history N [--seed N] | --replay FILE | "
+                        "--examples\n");
         return 2;
     }
     printf("the model against the " SUBJECT_NAME ", seed %llu\n", (unsigned long long)seed);

@@ -34,6 +34,7 @@ void draw_offence(const struct view *v, int code, struct command *c);
 /* An edge whose junior reaches its senior and doesn't derive it. */
 bool draw_hidden_loop(const struct view *v, struct command *c);
 void other_drawing(void); /* by the other chance, until it is called again */
+void fresh_drawing(uint64_t seed); /* whatever was drawn before */
 
 void draw_rights(struct model *m); /* as all that is drawn above has them */
 void all_rights(struct model *m);
@@ -86,12 +87,16 @@ enum { EMPTY, AS_WRITTEN }; /* the first two of the list; the first alone has no
 size_t make_file(int damage, struct view *v, uint8_t *file);
 
 /* ---- cases.c: one call at a time, on both sides */
-enum call { APPLY, COMMAND, CHECK, DERIVES, SCOPE, MANAGER, STEPS, STRETCH, FOUND, READ, WRITE, RUN, CALL_COUNT };
+enum call {
+    APPLY, COMMAND, CHECK, DERIVES, SCOPE, MANAGER, STEPS, STRETCH, FOUND, READ, WRITE, RUN,
+    START, CLAIM, RELEASE, JOB, CALL_COUNT
+};
 extern const char *const call_name[CALL_COUNT];
 
 /* Both sides get the board and the command; the number and the board afterwards must agree.
  * `after` is the model's board afterwards where the number is 0. */
 uint8_t try_apply(const struct view *v, const struct board *b, const struct command *c, struct view *after);
+uint8_t apply_uncounted(const struct view *v, const struct board *b, const struct command *c, struct view *after);
 void try_question(const struct opened *o, enum call call, uint32_t x, uint32_t y);
 void try_command(const struct opened *o, const struct command *c, size_t room);
 void try_found(void);
@@ -106,6 +111,32 @@ void disagree(const char *what, ...); /* prints the case in hand and ends the pr
 int replay(const char *name);         /* a file of case lines, or "-" */
 void watch_for_crashes(void);
 
+/* Copies that end where unreadable memory begins, and what memory holds before a call. */
+enum { GUARD = 64 };
+enum lending { THE_FILE, THE_COMMAND, THE_BOARD, THE_COMMANDS, THE_ROW, THE_LIST, THE_ROLES, LENDINGS };
+void *lend(enum lending what, const void *from, size_t len);
+void paint(uint8_t *at, size_t len);
+void in_hand(enum call call); /* for messages */
+void print_board(const struct board *b);
+bool read_board_word(const char *word, struct board *b); /* one that print_board printed */
+
+/* ---- jobs.c: the job list's calls, on both sides. Each leaves the list as the model has it, and gives the model's answer. */
+struct past { /* what a history knows of roles: removed by a command since the start, and added again */
+    bool gone[ROLES], back[ROLES];
+};
+uint64_t try_start(struct jobs *list, const uint8_t *roles, size_t n);
+/* A claim or a release. */
+uint64_t try_event(enum call call, const struct view *v, const struct board *b, struct jobs *list, uint32_t job,
+                   uint32_t member, uint32_t role, const struct past *past);
+uint64_t try_job(const struct jobs *list, uint32_t job);
+void print_job_case(void);
+void replay_job(enum call call, char *words);
+
+/* ---- histories.c: claims and releases on boards that change in between */
+enum { LONGEST_START = 65536 + JOBS_MOST }; /* so many roles, cut to 16 bits, would be a list */
+void history(uint64_t seed, long number); /* follows from these two */
+void print_history(void); /* the one in hand, if there is one */
+
 /* ---- tally.c: how often each number arose */
 /* The role in the way: 0; the lowest of several; and lower numbers that are not in the way, for four reasons. */
 enum { ROLE_0, OF_SEVERAL, PAST_ABOVE, PAST_BELOW, PAST_ASIDE, PAST_DEAD, WAYS };
@@ -118,6 +149,23 @@ enum {
     OF_200, FIRST_REFUSED, LAST_REFUSED, THEN_DONE, SAME_AGAIN, BY_A_NEW_ROLE, ALL_DONE, ALL_REFUSED,
     ON_UNSOUND, NONE_ON_UNSOUND, SHORT_ON_UNSOUND, TRAITS
 };
+/* How a list is begun: how many roles there are, and where one isn't below 64. */
+enum {
+    START_0, START_1, START_FEW, START_MANY, START_1024, START_1025, START_MORE, START_CUT,
+    BAD_FIRST, BAD_MIDDLE, BAD_LAST, BAD_AND_MORE, STARTS
+};
+/* What a claim or a release was met with, beside its number. */
+enum {
+    FIRST_1, ROLE_64, ROLE_TO_255, ROLE_WIDE, JOB_BEHIND, JOB_1024, JOB_ABOVE, JOB_WIDE, JOB_FAR, BOTH_OUT, FIRST_2,
+    ROLE_DEAD, JOB_DEAD, BOTH_DEAD, FIRST_3, ROLE_GONE, ROLE_BACK, ONLY_14, FIRST_14, BY_0, BY_MOST, MARK_ABOVE_1, HOLE_PAST,
+    OWN_ROLE, OUT_OF_SCOPE, OLD_MEMBER, BY_ITS_HOLDER, TURNED, ONLY_REACHED, ASIDE, /* of a claim */
+    HOLDER_WITHIN, HOLDER_OUTSIDE, HOLDER_DEAD, HOLDER_NO_ROLE, OTHER_WITHIN, OTHER_ITSELF, OTHER_BARRED, OTHER_TURNED,
+    OTHER_ASIDE, OTHER_IF_CUT, OPEN_BY_ITS_ROW, /* of a release */
+    JOB_TRAITS
+};
+enum { LOOK_OPEN, LOOK_HELD, LOOK_BEHIND, LOOK_ABOVE, LOOK_WIDE, LOOK_0, LOOK_MOST, LOOK_MARK, LOOK_OLD_MEMBER, LOOKS };
+enum { NEVER_CLAIMED, HELD_AT_LAST, OPEN_AT_LAST, CLAIMED_AGAIN, BY_ANOTHER, ENDS }; /* of a job, by the log */
+enum { JOB_NUMBERS = 16 };
 /* What became of the rights that 6 and 7 name. */
 enum { NONE_NAMED, NONE_CHANGED, SOME_CHANGED, ALL_CHANGED, AT_ITSELF, AT_ROLE_0, NONE_LEFT, SOME_USABLE, OUTCOMES };
 struct tally {
@@ -156,6 +204,8 @@ struct tally {
     long run[CODES][NUMBERS], run_cause[4]; /* of the commands in a run, as of apply */
     long rows[LENGTHS][ROWS], trait[TRAITS];
     long wide_role[CALL_COUNT][2];                     /* above 255, first or second of a question: 2 for that alone */
+    long histories, events;                            /* claims and releases */
+    long start[STARTS], event[2][JOB_NUMBERS], job_trait[2][JOB_TRAITS], look[LOOKS], end[ENDS];
 };
 extern struct tally tally;
 bool can_give(int code, int number); /* on a sound board */

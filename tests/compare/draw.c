@@ -17,6 +17,12 @@ void other_drawing(void)
     other_chance();
 }
 
+void fresh_drawing(uint64_t seed)
+{
+    lean = 0;
+    seed_with(seed);
+}
+
 /* The founding board's role 0 first, then other roles in any order. */
 static void draw_order(int order[ROLES])
 {

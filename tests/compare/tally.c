@@ -517,6 +517,113 @@ static void wide_numbers(void)
         }
 }
 
+/* ---- the job list */
+
+static void starts(void)
+{
+    static const char *const start[STARTS] = {
+        "no job", "1 job", "2 to 29 jobs", "30 to 1,023 jobs", "1,024 jobs", "1,025, so 2", "more, so 2",
+        "above 65,535, so 2", "the first no role, so 2", "one between no role, so 2", "the last no role, so 2",
+        "too many, and one no role"};
+    printf("jobs_start\n");
+    for (int k = 0; k < STARTS; k++) {
+        printf("%-36s%8ld\n", start[k], tally.start[k]);
+        need(tally.start[k], "jobs_start", start[k]);
+    }
+}
+
+/* Which of the two calls can be met with each. */
+static const struct {
+    const char *name;
+    bool claim, release;
+} job_trait[JOB_TRAITS] = {
+    [FIRST_1] = {"1, and another number holds", true, true},
+    [ROLE_64] = {"2, role 64 alone", true, true},
+    [ROLE_TO_255] = {"2, role up to 255 alone", true, true},
+    [ROLE_WIDE] = {"2, role above 255 alone, live if cut", true, true},
+    [JOB_BEHIND] = {"2, job below 1,024 alone", true, true},
+    [JOB_1024] = {"2, job 1,024 alone", true, true},
+    [JOB_ABOVE] = {"2, job up to 65,535 alone", true, true},
+    [JOB_WIDE] = {"2, job above it alone, listed if cut", true, true},
+    [JOB_FAR] = {"2, job of 2^31 or more alone", true, true},
+    [BOTH_OUT] = {"2, role and job", true, true},
+    [FIRST_2] = {"2, and 3 or 14 holds", true, true},
+    [ROLE_DEAD] = {"3, role acted in", true, true},
+    [JOB_DEAD] = {"3, the job's role", true, true},
+    [BOTH_DEAD] = {"3, both", true, true},
+    [FIRST_3] = {"3, and 14 holds", true, true},
+    [ROLE_GONE] = {"3, the job's role was removed", true, true},
+    [ROLE_BACK] = {"done, the job's role added again", true, true},
+    [ONLY_14] = {"14, and 15 doesn't hold", true, true},
+    [FIRST_14] = {"14, and 15 holds", true, true},
+    [BY_0] = {"done, member 0", true, true},
+    [BY_MOST] = {"done, member 4,294,967,295", true, true},
+    [MARK_ABOVE_1] = {"held by a mark above 1", true, true},
+    [HOLE_PAST] = {"2, a job between listed ones", true, true},
+    [OWN_ROLE] = {"done, in the job's own role", true, false},
+    [OUT_OF_SCOPE] = {"done, out of the role's scope", true, false},
+    [OLD_MEMBER] = {"done, a number stood there", true, false},
+    [BY_ITS_HOLDER] = {"14, by its holder, who may", true, false},
+    [TURNED] = {"15, the job's role derives it", true, false},
+    [ONLY_REACHED] = {"15, it only reaches the job's role", true, false},
+    [ASIDE] = {"15, neither", true, false},
+    [HOLDER_WITHIN] = {"done, holder, within scope", false, true},
+    [HOLDER_OUTSIDE] = {"done, holder, outside it", false, true},
+    [HOLDER_DEAD] = {"3, holder, in a role not live", false, true},
+    [HOLDER_NO_ROLE] = {"2, holder, in no role", false, true},
+    [OTHER_WITHIN] = {"done, another, within scope", false, true},
+    [OTHER_ITSELF] = {"done, another, in the job's own role", false, true},
+    [OTHER_BARRED] = {"15, another, only derives it", false, true},
+    [OTHER_TURNED] = {"15, another, scope the other way", false, true},
+    [OTHER_ASIDE] = {"15, another, neither derives", false, true},
+    [OTHER_IF_CUT] = {"15, another, the holder if cut", false, true},
+    [OPEN_BY_ITS_ROW] = {"14, open, by the number in its row", false, true},
+};
+
+static void jobs(void)
+{
+    static const char *const columns[] = {"0", "1", "2", "3", "14", "15"}, *const calls[] = {"claim", "release"};
+    static const char *const look[LOOKS] = {
+        "open", "held", "past the list, below 1,024", "1,024 and above", "above 65,535, listed if cut", "held by member 0",
+        "held by member 4,294,967,295", "held by a mark above 1", "open, a member in its row"};
+    static const char *const end[ENDS] = {"never claimed", "held", "open again", "claimed again", "claimed by another"};
+    static const int number[] = {0, 1, 2, 3, 14, 15};
+    char what[20];
+    starts();
+    heading("jobs_claim, jobs_release", columns, 6);
+    for (int call = 0; call < 2; call++) {
+        long others = 0;
+        printf("%-36s", calls[call]);
+        for (int k = 0; k < 6; k++) printf("%8ld", tally.event[call][number[k]]);
+        printf("\n");
+        for (int n = 0; n < JOB_NUMBERS; n++) others += tally.event[call][n];
+        for (int k = 0; k < 6; k++) {
+            sprintf(what, "%d", number[k]);
+            need(tally.event[call][number[k]], calls[call], what);
+            others -= tally.event[call][number[k]];
+        }
+        never(others, calls[call], "another number");
+    }
+    heading("what they were met with", calls, 2);
+    for (int k = 0; k < JOB_TRAITS; k++) {
+        const bool can[] = {job_trait[k].claim, job_trait[k].release};
+        printf("%-36s%8ld%8ld\n", job_trait[k].name, tally.job_trait[0][k], tally.job_trait[1][k]);
+        for (int call = 0; call < 2; call++)
+            if (can[call]) need(tally.job_trait[call][k], calls[call], job_trait[k].name);
+            else never(tally.job_trait[call][k], calls[call], job_trait[k].name);
+    }
+    printf("jobs_job\n");
+    for (int k = 0; k < LOOKS; k++) {
+        printf("%-36s%8ld\n", look[k], tally.look[k]);
+        need(tally.look[k], "jobs_job", look[k]);
+    }
+    printf("a job at the end of a history\n");
+    for (int k = 0; k < ENDS; k++) {
+        printf("%-36s%8ld\n", end[k], tally.end[k]);
+        need(tally.end[k], "a job at the end", end[k]);
+    }
+}
+
 int print_tally(long least)
 {
     enough = least;
@@ -538,5 +645,6 @@ int print_tally(long least)
     wide_numbers();
     files();
     sizes();
+    jobs();
     return wanting;
 }

@@ -1,5 +1,5 @@
-/* The scope document's examples, and some of an edge's parts, of roles that offend, of rights and of runs, on any
- * implementation of board.h. */
+/* The scope document's examples, and some of an edge's parts, of roles that offend, of rights, of runs and of the job list,
+ * on any implementation of board.h and jobs.h. */
 #include "model.h"
 #include <stdio.h>
 #include <string.h>
@@ -405,6 +405,163 @@ static void evenings(struct board founding, struct board w)
     runs("a wrong line manager, no command", unsound, c, 0, NULL, 1);
 }
 
+/* ---- the job list */
+
+static struct jobs listed;
+static struct job_event asked_for[64];
+static size_t events;
+
+enum { NOBODY = -1 };
+static void job(uint32_t j, long long holder)
+{
+    char what[40];
+    sprintf(what, "who holds job %u", j);
+    expect(what, use->jobs_job(&listed, j), holder == NOBODY ? 0 : 1ull << 16 | (uint64_t)holder << 32);
+}
+
+/* A refusal leaves all of the list. */
+static void asks(const struct board *b, bool claims, uint32_t j, uint32_t member, uint32_t role, uint8_t want)
+{
+    struct jobs was = listed;
+    char what[80];
+    sprintf(what, "%s of job %u by member %u in role %u", claims ? "claim" : "release", j, member, role);
+    expect(what, (claims ? use->jobs_claim : use->jobs_release)(&listed, b, j, member, role), want);
+    if (want != 0) expect(what, memcmp(&listed, &was, sizeof was) != 0, false);
+    asked_for[events++] = (struct job_event){claims, want, j, member};
+}
+
+static void claims(const struct board *b, uint32_t j, uint32_t member, uint32_t role, uint8_t want)
+{
+    asks(b, true, j, member, role, want);
+}
+
+static void releases(const struct board *b, uint32_t j, uint32_t member, uint32_t role, uint8_t want)
+{
+    asks(b, false, j, member, role, want);
+}
+
+static void empty_list(const char *what)
+{
+    bool empty = true;
+    for (int j = 0; j < JOBS_MOST; j++) empty &= listed.role[j] == 64 && listed.mark[j] == 0 && listed.member[j] == 0;
+    expect(what, empty, true);
+}
+
+/* On W 0 derives 1, 2 and 3, and reaches 4 and 5; 1 derives 3, 4 and 5; 3 and 4 derive 5, each in the other's way. */
+static void the_jobs(struct board w)
+{
+    static const uint8_t roles[] = {5, 3, 3, 40, 0};
+    static uint8_t many[JOBS_MOST + 1];
+    const uint32_t most = UINT32_MAX;
+    uint32_t holder;
+    struct board b;
+
+    memset(&listed, 0xee, sizeof listed);
+    events = 0;
+    expect("a list of five", use->jobs_start(&listed, roles, 5), 0);
+    for (uint32_t j = 0; j < 5; j++) job(j, NOBODY);
+    expect("job 5", use->jobs_job(&listed, 5), 2);
+    expect("job 1,024", use->jobs_job(&listed, JOBS_MOST), 2);
+    expect("a job above 65,535", use->jobs_job(&listed, 65536), 2);
+
+    claims(&w, 0, 7, 0, 15); /* only reaches it */
+    claims(&w, 0, 7, 2, 15); /* neither */
+    claims(&w, 1, 7, 5, 15); /* derived by it */
+    claims(&w, 0, 7, 3, 0);
+    job(0, 7);
+    claims(&w, 0, 7, 3, 14);
+    claims(&w, 0, 8, 5, 14);
+    claims(&w, 0, 8, 2, 14);
+    releases(&w, 1, 7, 1, 14);
+    releases(&w, 1, 7, 5, 14);
+    releases(&w, 0, 8, 3, 15); /* 4 is in the way */
+    releases(&w, 0, 8, 0, 15);
+    releases(&w, 0, 7, 40, 3); /* the holder too acts in a live role */
+    releases(&w, 0, 7, 64, 2);
+    job(0, 7);
+    releases(&w, 0, 7, 2, 0);
+    job(0, NOBODY);
+    releases(&w, 0, 7, 2, 14);
+    claims(&w, 0, 8, 5, 0);
+    releases(&w, 0, 7, 1, 0); /* by another, who has 5 in scope */
+    claims(&w, 0, most, 5, 0);
+    job(0, most);
+    releases(&w, 0, 0, 5, 0); /* 5 is in its own scope */
+    claims(&w, 1, 0, 3, 0);
+    job(1, 0);
+    releases(&w, 1, 1, 2, 15);
+    releases(&w, 2, 0, 2, 14); /* nobody's, though 0 stands there */
+
+    claims(&w, 3, 7, 1, 3);
+    claims(&w, 3, 7, 40, 3);
+    claims(&w, 1, 7, 40, 3);
+    claims(&w, 5, 7, 1, 2);
+    claims(&w, JOBS_MOST, 7, 1, 2);
+    claims(&w, 65536, 7, 1, 2);
+    claims(&w, most, 7, 64, 2);
+    claims(&w, 3, 7, 64, 2);
+    claims(&w, 2, 7, 256 + 3, 2);
+    b = w, b.manager[5] = 3;
+    claims(&b, most, 7, 64, 1);
+    claims(&b, 2, 7, 3, 1);
+    releases(&b, 1, 0, 3, 1);
+
+    /* 3 goes and comes back below 2 */
+    b = gives("W, 1 removes 3", w, remove_role(1, 3), 0);
+    releases(&b, 1, 0, 1, 3);
+    claims(&b, 2, 7, 1, 3);
+    struct command again = add_role(0, 3);
+    again.i_seniors = 1 << 2;
+    b = gives("W, 3 below 2", b, again, 0);
+    claims(&b, 2, 9, 1, 15); /* no longer derived by 1 */
+    claims(&b, 2, 9, 2, 0);
+    releases(&b, 2, 8, 2, 0);
+    claims(&b, 2, 8, 0, 0);
+
+    /* by what was answered: 1 and 2 are held, 0 was and isn't, 3 and 4 never were */
+    expect("nobody holds 0", holder_by_log(asked_for, events, 0, &holder), false);
+    expect("0 holds 1", holder_by_log(asked_for, events, 1, &holder) && holder == 0, true);
+    expect("8 holds 2", holder_by_log(asked_for, events, 2, &holder) && holder == 8, true);
+    expect("nobody holds 3", holder_by_log(asked_for, events, 3, &holder), false);
+    struct job_counts c = counts_by_log(asked_for, events, 5);
+    expect("two held, three open", c.held == 2 && c.open == 3 && c.fits, true);
+    asked_for[events++] = (struct job_event){true, 0, 2, 9}; /* as if 9 had been given it, too */
+    expect("that would not fit", counts_by_log(asked_for, events, 5).fits, false);
+    asked_for[events - 1] = (struct job_event){false, 0, 0, 9};
+    expect("nor a release too much", counts_by_log(asked_for, events, 5).fits, false);
+
+    /* lists that nobody began */
+    listed.mark[4] = 200, listed.member[4] = 12, listed.member[2] = 13, listed.mark[2] = 0, listed.role[1] = 64;
+    job(4, 12);
+    job(2, NOBODY);
+    expect("a job without a role", use->jobs_job(&listed, 1), 2);
+    claims(&w, 4, 12, 0, 14);
+    releases(&w, 4, 12, 5, 0);
+    expect("cleared", listed.mark[4] == 0 && listed.member[4] == 0, true);
+    releases(&w, 2, 13, 3, 14);
+    claims(&w, 2, 14, 3, 0);
+    job(2, 14);
+    releases(&w, 1, 0, 3, 2);
+
+    /* starts that are refused leave nothing */
+    many[700] = 64;
+    expect("role 64", use->jobs_start(&listed, many, 701), 2);
+    empty_list("role 64");
+    listed.mark[0] = 1;
+    expect("before it", use->jobs_start(&listed, many, 700), 0);
+    job(699, NOBODY);
+    expect("job 700", use->jobs_job(&listed, 700), 2);
+    many[700] = 63;
+    expect("1,025 jobs", use->jobs_start(&listed, many, JOBS_MOST + 1), 2);
+    empty_list("1,025 jobs");
+    expect("1,024 jobs", use->jobs_start(&listed, many, JOBS_MOST), 0);
+    claims(&w, JOBS_MOST - 1, most, 0, 0);
+    job(JOBS_MOST - 1, most);
+    claims(&w, 700, 1, 0, 3);
+    expect("no job", use->jobs_start(&listed, many, 0), 0);
+    empty_list("no job");
+}
+
 int wrong_examples(const char *whose, const struct calls *of)
 {
     struct board p, w, l, founding, b;
@@ -477,6 +634,7 @@ int wrong_examples(const char *whose, const struct calls *of)
     rights(p, w);
     file_with_rights(p);
     evenings(founding, w);
+    the_jobs(w);
 
     c = add_role(0, 63);
     c.i_seniors = 1;

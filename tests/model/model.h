@@ -115,6 +115,27 @@ uint64_t answer_write(const struct view *v, uint8_t *out, size_t room, size_t at
 uint64_t answer_run(const struct view *before, const struct command *commands, size_t n, uint64_t *answers, size_t m,
                     const struct view **left);
 
+/* jobs.c: the job list above the board, and model_jobs_start and the rest. The list is changed where the answer's number is 0. */
+uint32_t place_of(const struct jobs *list, uint32_t job); /* its place in the rows; JOBS_MOST where it is past the list */
+bool is_held(const struct jobs *list, uint32_t place);
+uint64_t answer_start(struct jobs *list, const uint8_t *roles, size_t n);
+uint64_t answer_claim(const struct view *v, struct jobs *list, uint32_t job, uint32_t member, uint32_t role);
+uint64_t answer_release(const struct view *v, struct jobs *list, uint32_t job, uint32_t member, uint32_t role);
+uint64_t answer_job(const struct jobs *list, uint32_t job);
+
+/* What was asked of a list since its start and what was answered, in order; and what follows from that alone. */
+struct job_event {
+    bool claims; /* or releases */
+    uint8_t number;
+    uint32_t job, member;
+};
+bool holder_by_log(const struct job_event *log, size_t n, uint32_t job, uint32_t *member); /* false: nobody holds it */
+struct job_counts {
+    size_t open, held;
+    bool fits; /* no job has more than one claim too many, and two claims of a job have a release between them */
+};
+struct job_counts counts_by_log(const struct job_event *log, size_t n, size_t listed);
+
 /* examples.c: the scope document's examples; prints and counts those that go wrong */
 int wrong_examples(const char *whose, const struct calls *of);
 

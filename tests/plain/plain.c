@@ -1,4 +1,4 @@
-/* board.h's contract in plain C, quick and unproved: what the library is measured against.
+/* board.h's and jobs.h's contracts in plain C, quick and unproved: what the library is measured against.
  *
  * Sets of roles are words. The values that a board keeps are worked out from its tables as a whole: once for the board
  * handed in, to be compared with its own, and once for the board that a command leaves, in their place there. `down` of a
@@ -500,4 +500,55 @@ uint64_t plain_write(const struct board *b, uint8_t *out, size_t room, size_t at
     if (!sound(b)) return answer(1, ASKED, 0);
     size_t written = at <= room ? write_file(b, out + at, room - at) : 0;
     return written != 0 ? answer(0, ASKED, written) : answer(12, IN_WRITING, 0);
+}
+
+/* ---- the job list */
+
+uint64_t plain_jobs_start(struct jobs *list, const uint8_t *roles, size_t n)
+{
+    uint8_t high = 0;
+    memset(list->role, 64, sizeof list->role);
+    memset(list->mark, 0, sizeof list->mark);
+    memset(list->member, 0, sizeof list->member);
+    if (n > JOBS_MOST) return 2;
+    for (size_t j = 0; j < n; j++) high |= roles[j] & 0xc0;
+    if (high != 0) return 2;
+    memcpy(list->role, roles, n);
+    return 0;
+}
+
+/* What refuses a claim and a release alike, or 0. */
+static uint8_t unasked(const struct jobs *list, const struct board *b, uint32_t job, uint32_t role)
+{
+    if (!sound(b)) return 1;
+    if (role > 63 || job >= JOBS_MOST || list->role[job] > 63) return 2;
+    return has(b->live, role) && has(b->live, list->role[job]) ? 0 : 3;
+}
+
+uint64_t plain_jobs_claim(struct jobs *list, const struct board *b, uint32_t job, uint32_t member, uint32_t role)
+{
+    uint8_t number = unasked(list, b, job, role);
+    if (number != 0) return number;
+    if (list->mark[job] != 0) return 14;
+    if (!has(b->derives[role], list->role[job])) return 15;
+    list->mark[job] = 1;
+    list->member[job] = member;
+    return 0;
+}
+
+uint64_t plain_jobs_release(struct jobs *list, const struct board *b, uint32_t job, uint32_t member, uint32_t role)
+{
+    uint8_t number = unasked(list, b, job, role);
+    if (number != 0) return number;
+    if (list->mark[job] == 0) return 14;
+    if (list->member[job] != member && !in_scope(b, role, list->role[job])) return 15;
+    list->mark[job] = 0;
+    list->member[job] = 0;
+    return 0;
+}
+
+uint64_t plain_jobs_job(const struct jobs *list, uint32_t job)
+{
+    if (job >= JOBS_MOST || list->role[job] > 63) return 2;
+    return list->mark[job] != 0 ? (uint64_t)list->member[job] << 32 | 1 << 16 : 0;
 }
