@@ -61,7 +61,8 @@ extern "C" {
 #define BOARD_VALUE(answer) ((uint32_t)((answer) >> 16 & 0xffff))
 
 /* What is out of scope, and why. A command's 6 has all three; board_scope's no has the cause and the role in the way,
- * beside offending role 0. With every other answer they are 0, but that board_stretch has its length there.
+ * beside offending role 0. With every other answer they are 0, but that board_stretch has its length there, and jobs_job
+ * of jobs.h its member.
  *
  * The offending role is the first that isn't in the actor's scope or, where that is asked, in its strict scope, which
  * leaves out the actor. Looked through in this order: the role of code 2 (strict), of 6 and 7, or the senior, the junior,

@@ -1,9 +1,12 @@
 /* The job list above the role board, for programs in C. It uses board.h's boards and answers, and is linked as they are.
  *
- * Each call decides by itself and changes the list in the same step; a refusal leaves the list as it was. So of two
- * members who claim one job one is told 14, whatever either of them looked up before. The list and the board are the
- * caller's: whoever has several threads or processes lets one call at a time have the list. Of pointers it asks what
- * board.h asks: the list may overlap neither the board nor `roles`.
+ * A claim or a release decides by itself and changes the list in the same step; refused, it leaves the list as it was. So
+ * of two members who may claim one open job the second is told 14, whatever either of them looked up before. The list and
+ * the board are the caller's: whoever has several threads or processes lets one call at a time have the list. Whether the
+ * caller is that member, and may act in that role, isn't looked at: find that out first, and take neither from a form.
+ *
+ * Of pointers it asks what board.h asks: no null pointer, not even with n 0, and the list may overlap neither the board nor
+ * `roles`, so a list can't be begun again from its own row of roles; nor may one row overlap another.
  *
  *     struct jobs list;
  *     const uint8_t roles[] = { 5, 5, 7 };                         // jobs 0 and 1 under role 5, job 2 under role 7
@@ -25,7 +28,8 @@ extern "C" {
 
 /* role[j]: the role that job j is listed under; a number above 63 where there is no job j. mark[j]: 0 where it is open, and
  * any other number where it is held; member[j]: by whom. jobs_start fills all of it in. A list that a caller filled in
- * otherwise is taken as it stands. */
+ * otherwise is taken as it stands. A struct of zeros is no empty list, but 1,024 open jobs under role 0: for an empty list
+ * call jobs_start with n 0. */
 struct jobs {
     uint8_t role[JOBS_MOST], mark[JOBS_MOST];
     uint32_t member[JOBS_MOST];
@@ -33,8 +37,8 @@ struct jobs {
 
 /* Answers are those of board.h. Their numbers: 0 done; then, the first that holds, 1 the board is not sound; 2 the role
  * acted in is no role, or the job is past the list; 3 the role acted in, or the job's role, isn't live; 14 the job isn't in
- * the state asked for; 15 role or member may not. jobs_start, which reads no board, has 2 alone. Place and value are 0, and all
- * above them, but for jobs_job. */
+ * the state asked for; 15 role or member may not. jobs_start and jobs_job, which read no board, have 0 and 2 alone. Place and
+ * value are 0, and all above them, but for jobs_job. */
 
 /* A new list of `n` jobs, all open; roles[j] is the role of job j. More than JOBS_MOST, or a role above 63, is 2, and leaves
  * an empty list. Either way nothing is left of what was there. */
@@ -49,9 +53,10 @@ static inline uint64_t jobs_release(struct jobs *list, const struct board *b, ui
 
 /* Whether a job is held: the value is 1 where it is, and 0 where it is open; and by whom. 2 where it is past the list. */
 static inline uint64_t jobs_job(const struct jobs *list, uint32_t job);
-#define JOBS_MEMBER(answer) ((uint32_t)((answer) >> 32)) /* of jobs_job; 0 where the job isn't held */
+#define JOBS_MEMBER(answer) ((uint32_t)((answer) >> 32)) /* 0 where nobody holds it; but member 0 may: the value tells */
 
-/* ---- the same on the rows themselves, which is what the library has: a board by its fields, a list by its rows */
+/* ---- the same on the rows themselves, which is what the library has: a board by its fields, a list by its rows; `by` is
+ * the member, and `acting` the role acted in */
 
 uint64_t jobs_start_rows(const uint8_t *roles, size_t n, uint8_t role[JOBS_MOST], uint8_t mark[JOBS_MOST],
                          uint32_t member[JOBS_MOST]);

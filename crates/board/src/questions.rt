@@ -1,6 +1,6 @@
 // The four questions. Each looks at the whole board once, and answers 1, 2 or 3 with no, none or zero, or 0 with the answer. The forms
-// with `_by` are for a caller that has just found the board sound: the same answer, with nothing worked out again. Theirs is the one
-// read off what is lent, whatever that holds.
+// with `_of` are on a board that is lent part by part. Those with `_by` are for a caller that has just found the board sound: the same
+// answer, with nothing worked out again. Theirs is the one read off what is lent, whatever that holds.
 ghost use Rattle.hierarchy.specs.First.{First};
 ghost use Rattle.board.specs.Boards.{boardOf};
 ghost use Rattle.board.specs.Looks.{DerivesOff, ScopeOff, ManagerOff, StepsOff};

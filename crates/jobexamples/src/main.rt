@@ -6,35 +6,45 @@ use board::commands::step;
 
 mod lines;
 
-// A role added under seniors by I.
-fn add_role(role: u32, i_seniors: u64) -> Command {
+// A role added under seniors.
+fn add_under(actor: u32, role: u32, a_seniors: u64, i_seniors: u64) -> Command {
     Command {
         code: 1,
-        actor: 0,
+        actor,
         role,
         junior: 0,
         kind: 0,
         rights: 0,
-        a_seniors: 0,
+        a_seniors,
         i_seniors,
         a_juniors: 0,
         i_juniors: 0,
     }
 }
 
-fn remove_role(role: u32) -> Command {
+// By role 0, by I.
+fn add_role(role: u32, i_seniors: u64) -> Command {
+    add_under(0, role, 0, i_seniors)
+}
+
+// The commands of role 0 that name no sets.
+fn command(code: u32, role: u32, junior: u32, kind: u32, rights: u32) -> Command {
     Command {
-        code: 2,
+        code,
         actor: 0,
         role,
-        junior: 0,
-        kind: 0,
-        rights: 0,
+        junior,
+        kind,
+        rights,
         a_seniors: 0,
         i_seniors: 0,
         a_juniors: 0,
         i_juniors: 0,
     }
+}
+
+fn remove_role(role: u32) -> Command {
+    command(2, role, 0, 0, 0)
 }
 
 // 0 I 1, 0 I 2, 1 I 3, 2 I 4: two coordinators, and the cutters of each. So 0 derives all, 1 itself and 3, 2 itself and 4, and each one's
@@ -45,6 +55,19 @@ fn two_coordinators() -> Board {
     let third = step(second.board, add_role(3, 0b10));
     let fourth = step(third.board, add_role(4, 0b100));
     fourth.board
+}
+
+// Document 01's W: 0 I 1, 0 I 2, 0 I 3, 1 A 3, 1 A 4, 3 A 5, 4 A 5. So 5 is derived by 1, 3 and 4, not by 0 (I, then A), and of these
+// only 1 has it in its scope: 3 and 4 are in each other's way.
+fn w() -> Board {
+    let first = step(Board::founding(), add_role(1, 0b1));
+    let second = step(first.board, add_role(2, 0b1));
+    let third = step(second.board, add_role(3, 0b1));
+    let able = step(third.board, command(6, 1, 0, 0, 31));
+    let joined = step(able.board, command(3, 1, 3, 2, 0));
+    let fourth = step(joined.board, add_under(1, 4, 0b10, 0));
+    let fifth = step(fourth.board, add_under(1, 5, 0b11000, 0));
+    fifth.board
 }
 
 // Jobs 0 and 1 under role 3, job 2 under role 4, job 3 under role 0.
@@ -149,6 +172,19 @@ fn long_lists(b: Board, roles: &mut [u8; 1024], marks: &mut [u8; 1024], members:
     lines::job(roles, marks, members, 0);
 }
 
+// A claim asks who derives, and a release who has it in scope.
+fn deriving_and_scope(roles: &mut [u8; 1024], marks: &mut [u8; 1024], members: &mut [u32; 1024]) {
+    let b = w();
+    lines::start(&[5], roles, marks, members);
+    lines::claim(b, roles, marks, members, 0, 7, 4);
+    lines::release(b, roles, marks, members, 0, 8, 4);
+    lines::release(b, roles, marks, members, 0, 8, 0);
+    lines::release(b, roles, marks, members, 0, 8, 1);
+    lines::claim(b, roles, marks, members, 0, 8, 0);
+    lines::claim(b, roles, marks, members, 0, 8, 3);
+    lines::job(roles, marks, members, 0);
+}
+
 fn main() {
     let b = two_coordinators();
     let mut roles = [0u8; 1024];
@@ -160,4 +196,5 @@ fn main() {
     refusals(b, &roles, &mut marks, &mut members);
     removed_role(b, &roles, &mut marks, &mut members);
     long_lists(b, &mut roles, &mut marks, &mut members);
+    deriving_and_scope(&mut roles, &mut marks, &mut members);
 }

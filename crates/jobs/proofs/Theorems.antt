@@ -21,7 +21,7 @@ use Rattle.jobs.specs.Answers.{Fits, newList, startRefusals, StartAnswer
 use Rattle.jobs.specs.declared.State.{State}
 use Rattle.jobs.specs.declared.State.the-variants.{IsOpen, HeldBy as IsHeldBy}
 use Rattle.jobs.specs.Histories.{Event, Event.claim, Event.release, Entry, EventAnswer, Went, Went.over, Went.then, History, claimOf, releaseOf, memberOf, claimsOf, releasesOf, LatestClaim, howMany}
-use Rattle.jobs.proofs.Steps.{Whole, Did, Did.takes, Did.frees, Did.leaves, open-not-held, step, stays-whole}
+use Rattle.jobs.proofs.Steps.{entryOf, Whole, Did, Did.takes, Did.frees, Did.leaves, open-not-held, step, stays-whole}
 
 -- ---- the list at the start
 
@@ -138,9 +138,12 @@ held-by-latest {listed} {last = last} h j m = (
       let k = went-quiet (one .1 .1) (one .1 .3) j (l .latest) (l .unreleased) (one .1 .2) in (k .0, k .1 ∙ l .member),
 )
 
--- A job has one holder at most.
-pub one-holder : (jobs : Jobs) (j : ℕ) {m n : ℕ} → HeldBy jobs j m → HeldBy jobs j n → m ≡ n
-one-holder jobs j h k = sym (h .1) ∙ k .1
+same-holder : (jobs : Jobs) (j : ℕ) {m n : ℕ} → HeldBy jobs j m → HeldBy jobs j n → m ≡ n
+same-holder jobs j h k = sym (h .1) ∙ k .1
+
+-- So a job never has two holders: of no history do two members have the latest successful claim of it, unreleased.
+pub one-holder : {listed : List ℕ} {log : List Entry} {last : Jobs} → History listed log last → (j m n : ℕ) → LatestClaim log j m → LatestClaim log j n → m ≡ n
+one-holder {last = last} h j m n p q = same-holder last j (held-by-latest h j m .1 p) (held-by-latest h j n .1 q)
 
 -- ---- how many are open and how many held
 
@@ -173,12 +176,17 @@ both p q k one (suc n) = let f = both p q k one n in (
   λ g. ⊎-elim (λ l. omega (arith, g, l, f .0 (omega (arith, l)), one n, ap num (lt-ltb n k l))) (λ le. omega (arith, f .1 le, one n, ap num (le-ltb n k le))) (lt-or-ge n k),
 )
 
+-- The jobs listed, and their roles, are those of the start.
+pub roles-stay : {listed : List ℕ} {log : List Entry} {last : Jobs} → History listed log last → last .roles ≡ newList listed .roles
+roles-stay {listed} h = went-whole (new-whole listed) (h .went) .listed-as
+
+pub listed-are : {listed : List ℕ} {log : List Entry} {last : Jobs} → History listed log last → (j : ℕ) → isListed last j ≡ ltb j (length listed)
+listed-are h j = ap (λ (r : List ℕ). ltb (roleAt r j) 64) (roles-stay h) ∙ new-listed (h .fits) j
+
 -- Open plus held jobs equal the jobs listed.
 pub open-and-held : {listed : List ℕ} {log : List Entry} {last : Jobs} → History listed log last → howMany (isOpen last) 1024 + howMany (isHeld last) 1024 ≡ length listed
 open-and-held {listed} {last = last} h = both (isOpen last) (isHeld last) (length listed)
-    (λ j. in-two (isListed last j) (eqb (getD (last .marks) j 0) 0)
-    ∙ ap (λ (r : List ℕ). num (ltb (roleAt r j) 64)) (went-whole (new-whole listed) (h .went) .listed-as) ∙ ap num (new-listed (h .fits) j))
-    1024 .1 (h .fits .few)
+    (λ j. in-two (isListed last j) (eqb (getD (last .marks) j 0) 0) ∙ ap num (listed-are h j)) 1024 .1 (h .fits .few)
 
 -- ---- a start
 
@@ -192,16 +200,25 @@ begun : {some : List ℕ} {list : Jobs} → Fits some → list ≡ newList some 
 begun {some} f e = record { fits = f; went = subst (λ (l : Jobs). Went (newList some) [] l) (sym e) over }
 
 -- A start that is done begins a history of the jobs handed in,
-pub start-done : {listed : List ℕ} {number : ℕ} {list : Jobs} → StartAnswer listed number list → number ≡ 0 → History listed [] list
-start-done {listed} s z = begun (fits-stable (first-done (startRefusals listed) refl (subst (First (startRefusals listed)) z (s .numbered)) .0)) (s .done z)
+pub done-begins : {listed : List ℕ} {number : ℕ} {list : Jobs} → StartAnswer listed number list → number ≡ 0 → History listed [] list
+done-begins {listed} s z = begun (fits-stable (first-done (startRefusals listed) refl (subst (First (startRefusals listed)) z (s .numbered)) .0)) (s .done z)
 
 -- one that is refused begins a history of none,
-pub start-refused : {listed : List ℕ} {number : ℕ} {list : Jobs} → StartAnswer listed number list → number ≢ 0 → History [] [] list
-start-refused s z = begun (record { few = zero-le; roles = λ j l. absurd (not-suc-le-zero l) }) (s .refused z)
+pub refused-begins : {listed : List ℕ} {number : ℕ} {list : Jobs} → StartAnswer listed number list → number ≢ 0 → History [] [] list
+refused-begins s z = begun (record { few = zero-le; roles = λ j l. absurd (not-suc-le-zero l) }) (s .refused z)
 
 -- and so any start begins one.
 pub start-begins : {listed : List ℕ} {number : ℕ} {list : Jobs} → StartAnswer listed number list → (some : List ℕ) × History some [] list
-start-begins {listed} {number} s = dite (ℕ-discrete number 0) (λ z. (listed, start-done s z)) (λ z. ([], start-refused s z))
+start-begins {listed} {number} s = dite (ℕ-discrete number 0) (λ z. (listed, done-begins s z)) (λ z. ([], refused-begins s z))
+
+went-on : {jobs now next : Jobs} {log : List Entry} (e : Entry) → Went jobs log now → EventAnswer (e .event) now (e .number) next → Went jobs (log ++ e ∷ []) next
+went-on e over a = then a over
+went-on e (then b rest) a = then b (went-on e rest a)
+
+-- And what a claim or a release promises is the next step of the history that led to its list.
+pub goes-on : {listed : List ℕ} {log : List Entry} {now next : Jobs} (v : Event) (n : ℕ) → History listed log now → EventAnswer v now n next
+    → History listed (log ++ entryOf v n ∷ []) next
+goes-on v n h a = record { fits = h .fits; went = went-on (entryOf v n) (h .went) a }
 
 -- ---- what comes back is one thing
 
@@ -233,7 +250,7 @@ look-unique jobs j = answered-unique (λ _. one)
     one IsOpen IsOpen p q = refl
     one IsOpen (IsHeldBy n) p q = absurd (apart p (q .0))
     one (IsHeldBy m) IsOpen p q = absurd (apart q (p .0))
-    one (IsHeldBy m) (IsHeldBy n) p q = ap IsHeldBy (one-holder jobs j p q)
+    one (IsHeldBy m) (IsHeldBy n) p q = ap IsHeldBy (same-holder jobs j p q)
 
 same-went : {jobs other x y : Jobs} {log : List Entry} → jobs ≡ other → Went jobs log x → Went other log y → x ≡ y
 same-went e over over = e

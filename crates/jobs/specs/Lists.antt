@@ -15,7 +15,7 @@ pub record Jobs : Type 0 where
 abbrev pub jobsOf : List ℕ → List ℕ → List ℕ → Jobs
 jobsOf roles marks members = record { roles = roles; marks = marks; members = members }
 
--- the number at place j of a row of 1,024; 64, which is no role, where there is no such place
+-- the number at place j of a row, which has 1,024 places; 64, which is no role, for a number past these
 unfoldable pub roleAt : List ℕ → ℕ → ℕ
 roleAt roles j = cond (ltb j 1024) (getD roles j 0) 64
 
@@ -26,7 +26,7 @@ roleOf jobs j = roleAt (jobs .roles) j
 abbrev pub isListed : Jobs → ℕ → Bool
 isListed jobs j = ltb (roleOf jobs j) 64
 
--- it is open where its mark is 0, and else held
+-- it is open where its mark is 0, and else held; past the list it is neither
 abbrev pub isHeld : Jobs → ℕ → Bool
 isHeld jobs j = isListed jobs j && not (eqb (getD (jobs .marks) j 0) 0)
 
