@@ -16,9 +16,18 @@ use Rattle.hierarchy.proofs.FirstLaws.{hit, pass, none}
 use Rattle.board.specs.Boards.{tablesOf}
 use Rattle.board.specs.Questions.{refusals, DerivesAnswer, ScopeAnswer}
 use Rattle.board.specs.declared.Board.{Board}
-use Rattle.board.proofs.Rules.{Passed, first-done, first-refused, first-next}
+use Rattle.board.proofs.Rules.{first-done, first-refused, first-next}
 use Rattle.jobs.specs.Lists.{Jobs, jobsOf, roleAt, roleOf, Open, Held}
 use Rattle.jobs.specs.Answers.{Fits, StartAnswer, onBoard, Settles, ClaimAnswer, ReleaseAnswer}
+
+-- ---- an answer, by its number
+
+module _ {rules : List (ℕ × Type 0)} {otherwise after list : Jobs} where
+  settles-refused : {n : ℕ} → First rules n → n ≢ 0 → list ≡ otherwise → Settles rules otherwise after n list
+  settles-refused f z e = record { numbered = f; done = λ k. absurd (z k); refused = λ _. e }
+
+  settles-done : First rules 0 → list ≡ after → Settles rules otherwise after 0 list
+  settles-done f e = record { numbered = f; done = λ _. e; refused = λ k. absurd (k refl) }
 
 -- ---- the start
 
@@ -41,15 +50,11 @@ drop-replicate (suc k) (suc n) a l = drop-replicate k n a (omega arith) ∙ ap (
 -- a start that is refused, and one that is done
 pub starts-empty : {listed roles marks members : List ℕ} → (Fits listed → ⊥) → roles ≡ replicate 1024 64 → marks ≡ replicate 1024 0 → members ≡ replicate 1024 0
     → StartAnswer listed 2 (jobsOf roles marks members)
-starts-empty n u v w = record { numbered = hit _ _ _ n; done = λ k. absurd (omega (arith, k)); refused = λ _. rw (u, v, w) refl }
+starts-empty n u v w = settles-refused (hit _ _ _ n) (λ k. omega (arith, k)) (rw (u, v, w) refl)
 
 pub starts : {listed roles marks members : List ℕ} → Fits listed → roles ≡ listed ++ drop (length listed) (replicate 1024 64) → marks ≡ replicate 1024 0
     → members ≡ replicate 1024 0 → StartAnswer listed 0 (jobsOf roles marks members)
-starts {listed} f u v w = record {
-  numbered = pass _ _ _ _ (λ n. n f) none;
-  done = λ _. rw (u, v, w, drop-replicate (length listed) 1024 64 (f .few)) refl;
-  refused = λ k. absurd (k refl);
-}
+starts {listed} f u v w = settles-done (pass _ _ _ _ (λ n. n f) none) (rw (u, v, w, drop-replicate (length listed) 1024 64 (f .few)) refl)
 
 -- ---- the role of a job
 
@@ -88,79 +93,60 @@ open-mark jobs j e = eqb-true _ 0 (and-right (ltb (roleOf jobs j) 64) (eqb (getD
 pub held-mark : (jobs : Jobs) (j : ℕ) → Held jobs j → getD (jobs .marks) j 0 ≢ 0
 held-mark jobs j e z = false-no (ap not (eq-eqb _ 0 z)) (and-right (ltb (roleOf jobs j) 64) (not (eqb (getD (jobs .marks) j 0) 0)) e)
 
--- ---- an answer, by its number
-
-module _ {rules : List (ℕ × Type 0)} {jobs after : Jobs} where
-  settles-refused : {n : ℕ} → First rules n → n ≢ 0 → Settles rules jobs after n jobs
-  settles-refused f z = record { numbered = f; done = λ k. absurd (z k); refused = λ _. refl }
-
-  settles-done : {list : Jobs} → First rules 0 → list ≡ after → Settles rules jobs after 0 list
-  settles-done f e = record { numbered = f; done = λ _. e; refused = λ k. absurd (k refl) }
-
 -- ---- the board's numbers first, then the list's
 
-module _ (b : Board) (jobs : Jobs) (j r : ℕ) where
-  module _ {n : ℕ} (f : First (onBoard b jobs j r) n) (z : n ≡ 0) where
-    passed : Passed (onBoard b jobs j r)
-    passed = first-done (onBoard b jobs j r) refl (subst (First (onBoard b jobs j r)) z f)
+-- asked of the number that was read as the job's role
+module _ (b : Board) (jobs : Jobs) (j r : ℕ) {y : ℕ} (e : y ≡ roleOf jobs j) where
+  module _ (n : ℕ) (f : First (refusals b r y) n) where
+    asked : First (onBoard b jobs j r) n
+    asked = subst (λ (x : ℕ). First (refusals b r x) n) e f
 
-    listed : roleOf jobs j < 64
-    listed = unrefused b r (roleOf jobs j) f z
+    -- a refusal of the board's is the list's, whatever comes after it
+    pub refused-first : (rest : List (ℕ × Type 0)) {after : Jobs} → n ≢ 0 → Settles (onBoard b jobs j r ++ rest) jobs after n jobs
+    refused-first rest z = settles-refused (first-refused (onBoard b jobs j r) rest n z asked) z refl
 
-    next : (k : ℕ) (rest : List (ℕ × Type 0)) → First rest k → First (onBoard b jobs j r ++ rest) k
-    next k rest h = first-next (onBoard b jobs j r) rest k passed h
+    module _ (z : n ≡ 0) where
+      listed : roleOf jobs j < 64
+      listed = unrefused b r (roleOf jobs j) asked z
 
-  -- asked of the number that was read as the job's role
-  module _ {y : ℕ} (e : y ≡ roleOf jobs j) where
-    module _ {n : ℕ} {said : Bool} (m : ℕ) (d : DerivesAnswer b r y n said) where
-      derives-numbered : First (onBoard b jobs j r) n
-      derives-numbered = subst (λ (x : ℕ). First (refusals b r x) n) e (d .numbered)
+      next : (k : ℕ) (rest : List (ℕ × Type 0)) → First rest k → First (onBoard b jobs j r ++ rest) k
+      next k rest h = first-next (onBoard b jobs j r) rest k (first-done (onBoard b jobs j r) refl (subst (First (onBoard b jobs j r)) z asked)) h
 
-      pub claim-refused : n ≢ 0 → ClaimAnswer b jobs j m r n jobs
-      claim-refused z = settles-refused (first-refused (onBoard b jobs j r) _ n z derives-numbered) z
+  module _ {n : ℕ} {said : Bool} (m : ℕ) (d : DerivesAnswer b r y n said) (z : n ≡ 0) where
+    pub claim-14 : getD (jobs .marks) j 0 ≢ 0 → ClaimAnswer b jobs j m r 14 jobs
+    claim-14 k = settles-refused (next n (d .numbered) z 14 _ (hit _ _ _ (λ o. k (open-mark jobs j o)))) (λ q. omega (arith, q)) refl
 
-      module _ (z : n ≡ 0) where
-        pub claim-14 : getD (jobs .marks) j 0 ≢ 0 → ClaimAnswer b jobs j m r 14 jobs
-        claim-14 k = settles-refused (next derives-numbered z 14 _ (hit _ _ _ (λ o. k (open-mark jobs j o)))) (λ q. omega (arith, q))
+    module _ (k : getD (jobs .marks) j 0 ≡ 0) where
+      is-open : (Open jobs j → ⊥) → ⊥
+      is-open h = h (marked-open jobs j (listed n (d .numbered) z) k)
 
-        module _ (k : getD (jobs .marks) j 0 ≡ 0) where
-          is-open : (Open jobs j → ⊥) → ⊥
-          is-open h = h (marked-open jobs j (listed derives-numbered z) k)
+      derived : (said ≡ true) ↔ Derives (tablesOf b) r (roleOf jobs j)
+      derived = subst (λ (x : ℕ). (said ≡ true) ↔ Derives (tablesOf b) r x) e (d .done z)
 
-          derived : (said ≡ true) ↔ Derives (tablesOf b) r (roleOf jobs j)
-          derived = subst (λ (x : ℕ). (said ≡ true) ↔ Derives (tablesOf b) r x) e (d .done z)
+      pub claim-15 : said ≡ false → ClaimAnswer b jobs j m r 15 jobs
+      claim-15 q = settles-refused (next n (d .numbered) z 15 _ (pass _ _ _ _ is-open (hit _ _ _ (λ h. false-no q (derived .1 h))))) (λ q. omega (arith, q)) refl
 
-          pub claim-15 : said ≡ false → ClaimAnswer b jobs j m r 15 jobs
-          claim-15 q = settles-refused (next derives-numbered z 15 _ (pass _ _ _ _ is-open (hit _ _ _ (λ h. false-no q (derived .1 h))))) (λ q. omega (arith, q))
+      pub claim-done : said ≡ true → {marks members : List ℕ} → marks ≡ set (jobs .marks) j 1 → members ≡ set (jobs .members) j m
+          → ClaimAnswer b jobs j m r 0 (jobsOf (jobs .roles) marks members)
+      claim-done q u v = settles-done (next n (d .numbered) z 0 _ (pass _ _ _ _ is-open (pass _ _ _ _ (λ h. h (derived .0 q)) none))) (ap₂ (jobsOf (jobs .roles)) u v)
 
-          pub claim-done : said ≡ true → {marks members : List ℕ} → marks ≡ set (jobs .marks) j 1 → members ≡ set (jobs .members) j m
-              → ClaimAnswer b jobs j m r 0 (jobsOf (jobs .roles) marks members)
-          claim-done q u v = settles-done (next derives-numbered z 0 _ (pass _ _ _ _ is-open (pass _ _ _ _ (λ h. h (derived .0 q)) none))) (ap₂ (jobsOf (jobs .roles)) u v)
+  module _ {n count cause way : ℕ} {said : Bool} (m : ℕ) (d : ScopeAnswer b r y n said count cause way) (z : n ≡ 0) where
+    pub release-14 : getD (jobs .marks) j 0 ≡ 0 → ReleaseAnswer b jobs j m r 14 jobs
+    release-14 k = settles-refused (next n (d .numbered) z 14 _ (hit _ _ _ (λ h. held-mark jobs j h k))) (λ q. omega (arith, q)) refl
 
-    module _ {n count cause way : ℕ} {said : Bool} (m : ℕ) (d : ScopeAnswer b r y n said count cause way) where
-      scope-numbered : First (onBoard b jobs j r) n
-      scope-numbered = subst (λ (x : ℕ). First (refusals b r x) n) e (d .numbered)
+    module _ (k : getD (jobs .marks) j 0 ≢ 0) where
+      held : Held jobs j
+      held = marked-held jobs j (listed n (d .numbered) z) k
 
-      pub release-refused : n ≢ 0 → ReleaseAnswer b jobs j m r n jobs
-      release-refused z = settles-refused (first-refused (onBoard b jobs j r) _ n z scope-numbered) z
+      scoped : (said ≡ true) ↔ Scope (tablesOf b) r (roleOf jobs j)
+      scoped = subst (λ (x : ℕ). (said ≡ true) ↔ Scope (tablesOf b) r x) e (d .done z .0 .0)
 
-      module _ (z : n ≡ 0) where
-        pub release-14 : getD (jobs .marks) j 0 ≡ 0 → ReleaseAnswer b jobs j m r 14 jobs
-        release-14 k = settles-refused (next scope-numbered z 14 _ (hit _ _ _ (λ h. held-mark jobs j h k))) (λ q. omega (arith, q))
+      pub release-15 : getD (jobs .members) j 0 ≢ m → said ≡ false → ReleaseAnswer b jobs j m r 15 jobs
+      release-15 h q = settles-refused (next n (d .numbered) z 15 _ (pass _ _ _ _ (λ u. u held) (hit _ _ _ (λ w. h (w .1), λ w. false-no q (scoped .1 w))))) (λ q. omega (arith, q)) refl
 
-        module _ (k : getD (jobs .marks) j 0 ≢ 0) where
-          held : Held jobs j
-          held = marked-held jobs j (listed scope-numbered z) k
-
-          scoped : (said ≡ true) ↔ Scope (tablesOf b) r (roleOf jobs j)
-          scoped = subst (λ (x : ℕ). (said ≡ true) ↔ Scope (tablesOf b) r x) e (d .done z .0 .0)
-
-          pub release-15 : getD (jobs .members) j 0 ≢ m → said ≡ false → ReleaseAnswer b jobs j m r 15 jobs
-          release-15 h q = settles-refused (next scope-numbered z 15 _ (pass _ _ _ _ (λ u. u held) (hit _ _ _ (λ w. h (w .1), λ w. false-no q (scoped .1 w))))) (λ q. omega (arith, q))
-
-          -- by the holder, or through a scope that has it
-          pub release-done : (getD (jobs .members) j 0 ≡ m) ⊎ (said ≡ true) → {marks members : List ℕ} → marks ≡ set (jobs .marks) j 0 → members ≡ set (jobs .members) j 0
-              → ReleaseAnswer b jobs j m r 0 (jobsOf (jobs .roles) marks members)
-          release-done h u v = settles-done
-              (next scope-numbered z 0 _ (pass _ _ _ _ (λ w. w held) (pass _ _ _ _ (λ w. ⊎-elim (λ q. w .0 (held, q)) (λ q. w .1 (scoped .0 q)) h) none)))
-              (ap₂ (jobsOf (jobs .roles)) u v)
+      -- by the holder, or through a scope that has it
+      pub release-done : (getD (jobs .members) j 0 ≡ m) ⊎ (said ≡ true) → {marks members : List ℕ} → marks ≡ set (jobs .marks) j 0 → members ≡ set (jobs .members) j 0
+          → ReleaseAnswer b jobs j m r 0 (jobsOf (jobs .roles) marks members)
+      release-done h u v = settles-done
+          (next n (d .numbered) z 0 _ (pass _ _ _ _ (λ w. w held) (pass _ _ _ _ (λ w. ⊎-elim (λ q. w .0 (held, q)) (λ q. w .1 (scoped .0 q)) h) none)))
+          (ap₂ (jobsOf (jobs .roles)) u v)

@@ -2,7 +2,7 @@
 -- Assumes nothing.
 use mathlib.Core.Path.{_≡_, refl, sym, ap, ap₂, _∙_, subst}
 use mathlib.Core.Bool.{Bool, true, false, not, _&&_}
-use mathlib.Core.Logic.{⊎-elim, _≢_, dite}
+use mathlib.Core.Logic.{⊎-elim, _≢_, Iff·rfl, dite}
 use mathlib.Core.List.{List}
 use Prim.Native.Nat.{ℕ}
 use native.Mathlib.Decide.{ℕ-discrete}
@@ -10,9 +10,9 @@ use lib.Dec.{eqb}
 use lib.ListN.{length, getD, set, length-set}
 use lib.Seq.{getD-set-same, getD-set-other}
 use borrow.Author.Tests.{eqb-true, eqb-false, ltb-true, eq-eqb, ne-eqb}
-use Rattle.sets.proofs.Bools.{true-or-false, false-no, and-left}
+use Rattle.sets.proofs.Bools.{true-or-false, and-left, decided}
 use Rattle.hierarchy.specs.First.{First}
-use Rattle.board.proofs.Rules.{first-done}
+use Rattle.board.proofs.Rules.{stable, first-done}
 use Rattle.board.specs.declared.Board.{Board}
 use Rattle.jobs.specs.Lists.{Jobs, jobsOf, roleOf, isListed, isHeld, Held, Open, HeldBy, taken, freed}
 use Rattle.jobs.specs.Answers.{claimRefusals, releaseRefusals, Settles}
@@ -35,7 +35,7 @@ pub data Did (jobs next : Jobs) (e : Entry) (j : ℕ) : Type 0 where
 
 -- a row of a table that says "not" failed: so it is
 so : (p : Bool) → ((p ≡ true → ⊥) → ⊥) → p ≡ true
-so p h = ⊎-elim (λ e. e) (λ e. absurd (h (false-no e))) (true-or-false p)
+so p = stable (decided p Iff·rfl)
 
 pub open-not-held : (p q : Bool) → (p && q) ≡ true → (p && not q) ≡ false
 open-not-held true true e = refl

@@ -4,16 +4,18 @@ use mathlib.Core.Bool.{Bool, true, false, not, _&&_}
 use mathlib.Core.Logic.{_⊎_, inl, inr, ⊎-elim, _≢_, _↔_, dite}
 use mathlib.Core.List.{List, [], _∷_, _++_}
 use Prim.Native.Nat.{ℕ, zero, suc, _+_, _-_, _≤_, _<_, zero-le}
-use native.Mathlib.Nat.{not-suc-le-zero, le-of-suc-le-suc, not-le-of-lt}
+use native.Mathlib.Nat.{not-suc-le-zero, not-le-of-lt}
 use native.Mathlib.Decide.{ℕ-discrete}
 use native.Mathlib.Omega.{arith}
 use lib.Dec.{eqb, ltb}
-use lib.ListN.{length, getD, replicate, length-replicate, getD-replicate, List·getD-append, List·getD-eq-default}
+use lib.ListN.{length, getD, replicate, length-replicate, getD-replicate, List·getD-append}
+use lib.Seq.{getD-append-add}
 use borrow.Author.Tests.{ltb-true, lt-ltb, le-ltb}
 use Rattle.sets.specs.Sets.{num}
 use Rattle.sets.proofs.Bools.{true-or-false, not-so, false-no, and-right, lt-or-ge, cond-elim}
 use Rattle.hierarchy.specs.First.{First}
 use Rattle.hierarchy.proofs.FirstLaws.{first-unique}
+use Rattle.hierarchy.proofs.Rows.{one-entry}
 use Rattle.board.proofs.Rules.{first-done}
 use Rattle.board.proofs.Settled.{answered-unique}
 use Rattle.jobs.specs.Lists.{Jobs, roleAt, isListed, isHeld, isOpen, Held, Open, HeldBy}
@@ -25,15 +27,12 @@ use Rattle.jobs.proofs.Steps.{entryOf, Whole, Did, Did.takes, Did.frees
 
 -- ---- the list at the start
 
-all-same : (n j x : ℕ) → getD (replicate n x) j x ≡ x
-all-same n j x = ⊎-elim (λ l. getD-replicate n j x x l) (λ g. List·getD-eq-default (replicate n x) x (rw (length-replicate n x) g)) (lt-or-ge j n)
-
 new-whole : (listed : List ℕ) → Whole (newList listed .roles) (newList listed)
 new-whole listed = record { listed-as = refl; marks-long = length-replicate {A = ℕ} 1024 0; members-long = length-replicate {A = ℕ} 1024 0 }
 
 -- nothing is held in it
 new-open : (listed : List ℕ) (j : ℕ) → isHeld (newList listed) j ≡ false
-new-open listed j = not-so (isHeld (newList listed) j) (λ e. false-no (ap (λ (x : ℕ). not (eqb x 0)) (all-same 1024 j 0)) (and-right (isListed (newList listed) j) _ e))
+new-open listed j = not-so (isHeld (newList listed) j) (λ e. false-no (ap (λ (x : ℕ). not (eqb x 0)) (one-entry 1024 j 0)) (and-right (isListed (newList listed) j) _ e))
 
 -- ---- along a history, from any whole list on
 
@@ -148,9 +147,9 @@ one-holder {last = last} h j m n p q = same-holder last j (held-by-latest h j m 
 -- ---- how many are open and how many held
 
 past-end : (xs : List ℕ) (n j d : ℕ) → length xs ≤ j → j < length xs + n → getD (xs ++ replicate n 64) j d ≡ 64
-past-end [] n j d g l = getD-replicate n j 64 d (omega (arith, l))
-past-end (x ∷ xs) n zero d g l = absurd (not-suc-le-zero g)
-past-end (x ∷ xs) n (suc j) d g l = past-end xs n j d (le-of-suc-le-suc g) (omega (arith, l))
+past-end xs n j d g l =
+    let e : length xs + (j - length xs) ≡ j = omega (arith, g) in
+    ap (λ (k : ℕ). getD (xs ++ replicate n 64) k d) (sym e) ∙ getD-append-add xs (replicate n 64) (j - length xs) d ∙ getD-replicate n (j - length xs) 64 d (omega (arith, g, l))
 
 -- the jobs that are listed are the first ones
 new-listed : {listed : List ℕ} → Fits listed → (j : ℕ) → ltb (roleAt (newList listed .roles) j) 64 ≡ ltb j (length listed)
@@ -222,7 +221,7 @@ goes-on v n h a = record { fits = h .fits; went = went-on (entryOf v n) (h .went
 
 -- ---- what comes back is one thing
 
-settles-unique : {rules : List (ℕ × Type 0)} {jobs after x y : Jobs} {m n : ℕ} → Settles rules jobs after m x → Settles rules jobs after n y → (m ≡ n) × (x ≡ y)
+settles-unique : {rules : List (ℕ × Type 0)} {otherwise after x y : Jobs} {m n : ℕ} → Settles rules otherwise after m x → Settles rules otherwise after n y → (m ≡ n) × (x ≡ y)
 settles-unique {rules} {m = m} {n} p q =
     let e = first-unique rules m n (p .numbered) (q .numbered) in
     (e, dite (ℕ-discrete m 0) (λ z. p .done z ∙ sym (q .done (sym e ∙ z))) (λ z. p .refused z ∙ sym (q .refused (λ d. z (e ∙ d)))))
@@ -234,10 +233,7 @@ answer-unique (release b j m r) jobs p q = settles-unique p q
 
 -- So do two answers to the same start,
 pub start-unique : {listed : List ℕ} {m n : ℕ} {x y : Jobs} → StartAnswer listed m x → StartAnswer listed n y → (m ≡ n) × (x ≡ y)
-start-unique p q = settles-unique (settles p) (settles q)
-  where
-    settles : {listed : List ℕ} {n : ℕ} {x : Jobs} → StartAnswer listed n x → Settles (startRefusals listed) (newList []) (newList listed) n x
-    settles s = record { numbered = s .numbered; done = s .done; refused = s .refused }
+start-unique p q = settles-unique p q
 
 -- and to the same look at a job.
 pub look-unique : (jobs : Jobs) (j : ℕ) {m n : ℕ} {v w : State} → LookAnswer jobs j m v → LookAnswer jobs j n w → (m ≡ n) × (v ≡ w)

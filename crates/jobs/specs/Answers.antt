@@ -13,6 +13,12 @@ use Rattle.jobs.specs.Lists.{Jobs, jobsOf, roleOf, Open, Held, HeldBy, t
 use Rattle.jobs.specs.declared.State.{State}
 use Rattle.jobs.specs.declared.State.the-variants.{IsOpen, HeldBy as IsHeldBy}
 
+-- what an answer settles: the number by its table, and the list left, one where it is refused and another where it is done
+pub record Settles (rules : List (ℕ × Type 0)) (otherwise after : Jobs) (number : ℕ) (list : Jobs) : Type 0 where
+  pub numbered : First rules number
+  pub done : number ≡ 0 → list ≡ after
+  pub refused : number ≢ 0 → list ≡ otherwise
+
 -- ---- the start: a role for each job
 
 abbrev pub AllRoles : List ℕ → Type 0
@@ -31,10 +37,8 @@ abbrev pub startRefusals : List ℕ → List (ℕ × Type 0)
 startRefusals listed = (2, (Fits listed → ⊥)) ∷ []
 
 -- done leaves the list of these jobs, refused the empty one, whatever was there
-pub record StartAnswer (listed : List ℕ) (number : ℕ) (list : Jobs) : Type 0 where
-  pub numbered : First (startRefusals listed) number
-  pub done : number ≡ 0 → list ≡ newList listed
-  pub refused : number ≢ 0 → list ≡ newList []
+abbrev pub StartAnswer : List ℕ → ℕ → Jobs → Type 0
+StartAnswer listed = Settles (startRefusals listed) (newList []) (newList listed)
 
 -- ---- a claim and a release of job j by the member m who acts in the role r, on the board b
 
@@ -53,12 +57,7 @@ abbrev pub releaseRefusals : Board → Jobs → ℕ → ℕ → ℕ → List (�
 releaseRefusals b jobs j m r =
     onBoard b jobs j r ++ (14, (Held jobs j → ⊥)) ∷ (15, (HeldBy jobs j m → ⊥) × (Scope (tablesOf b) r (roleOf jobs j) → ⊥)) ∷ []
 
--- the number by its table; done leaves the list `after`, a refusal the one there was
-pub record Settles (rules : List (ℕ × Type 0)) (jobs after : Jobs) (number : ℕ) (list : Jobs) : Type 0 where
-  pub numbered : First rules number
-  pub done : number ≡ 0 → list ≡ after
-  pub refused : number ≢ 0 → list ≡ jobs
-
+-- done leaves the job taken, or open again; a refusal leaves the list there was
 abbrev pub ClaimAnswer : Board → Jobs → ℕ → ℕ → ℕ → ℕ → Jobs → Type 0
 ClaimAnswer b jobs j m r = Settles (claimRefusals b jobs j r) jobs (taken jobs j m)
 

@@ -1,5 +1,5 @@
 use borrow.Author.Tests.{not-true, not-false}
-use Rattle.jobs.proofs.Deciding.{found, claim-refused, claim-14, claim-15, claim-done}
+use Rattle.jobs.proofs.Deciding.{found, refused-first, claim-14, claim-15, claim-done}
 use borrow.Author.Needs.{needs}
 use Rattle.jobs.proofs.claim_of.Statement.{statement}
 use Rattle.jobs.proofs.claim_of.Tie as tie
@@ -11,7 +11,7 @@ derives-of-requires : tie.Need-derives-of-requires
 derives-of-requires c κs = search needs
 
 returns : tie.Need-returns
-returns c = let q = c .before .before in claim-refused _ _ _ _ (q .before .role-of .ensures) _ (q .derives-of .ensures) (c .if1 .taken)
+returns c = let q = c .before .before in refused-first _ _ _ _ (q .before .role-of .ensures) _ (q .derives-of .ensures .numbered) _ (c .if1 .taken)
 
 element-copy-out-if2 : tie.Need-element-copy-out-if2
 element-copy-out-if2 c = let q = c .before .before in found _ _ _ _ (q .before .role-of .ensures) (q .derives-of .ensures .numbered) (c .if1 .left)

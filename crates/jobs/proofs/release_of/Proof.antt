@@ -1,6 +1,6 @@
 use mathlib.Core.Logic.{inl, inr, ⊎-elim}
 use borrow.Author.Tests.{not-true, not-false}
-use Rattle.jobs.proofs.Deciding.{found, release-refused, release-14, release-15, release-done}
+use Rattle.jobs.proofs.Deciding.{found, refused-first, release-14, release-15, release-done}
 use borrow.Author.Needs.{needs}
 use Rattle.jobs.proofs.release_of.Statement.{statement}
 use Rattle.jobs.proofs.release_of.Tie as tie
@@ -12,7 +12,7 @@ scope-of-requires : tie.Need-scope-of-requires
 scope-of-requires c κs = search needs
 
 returns : tie.Need-returns
-returns c = let q = c .before .before in release-refused _ _ _ _ (q .before .role-of .ensures) _ (q .scope-of .ensures) (c .if1 .taken)
+returns c = let q = c .before .before in refused-first _ _ _ _ (q .before .role-of .ensures) _ (q .scope-of .ensures .numbered) _ (c .if1 .taken)
 
 element-copy-out-if2 : tie.Need-element-copy-out-if2
 element-copy-out-if2 c = let q = c .before .before in found _ _ _ _ (q .before .role-of .ensures) (q .scope-of .ensures .numbered) (c .if1 .left)
