@@ -6,7 +6,8 @@
 #   tests/run.sh replay FILE         the case lines that a disagreement printed ("-": standard input)
 #   tests/run.sh history N           one of the job list's histories again, by its number
 #   tests/run.sh mutations           the broken models of mutations.txt: the comparison must notice each
-#   tests/run.sh bench | stack       what a call costs, in time and in stack
+#   tests/run.sh bench               what a call costs in time
+#   tests/run.sh stack               and in stack: at most, by the machine code, and painted; held to docs/PERFORMANCE.md
 #   tests/run.sh instructions        and in instructions, where the emulator runs it: it counts them one by one
 #   tests/run.sh boards              makes the files of boards/ anew by the library's writer
 #   tests/run.sh tools               only see to the compiler and the emulator
@@ -222,8 +223,8 @@ bench)
     ;;
 stack)
     tools
-    program "$build/stack" -O3 "$here/bench/stack.c" "$here/bench/boards.c" "$here/plain/plain.c"
-    run "$build/stack" "$where"
+    . "$here/stack/run.sh"
+    stack
     ;;
 instructions)
     tools

@@ -146,7 +146,7 @@ const char *const deed_name[DEEDS] = {"apply, done", "apply, refused 6", "apply,
                                       "command, given", "view, stored",  "view, by calls",  "run of 30",
                                       "30 by apply", "claim, done",      "claim, taken 14",  "claim, 15",
                                       "release, holder", "release, other", "release, 15",   "start of 1,024",
-                                      "job"};
+                                      "job",         "found"};
 
 const struct table tables[TABLES] = {
     {"Each call", 4, CALLS, {FOUNDING, TREE_20, CHAIN_64, FULL},
@@ -297,6 +297,7 @@ long perform(enum deed deed, const struct calls *c, struct sample *s, long times
     case STRETCH: REPEAT(c->stretch(file, len, last), 0); break;
     case READ: REPEAT(c->read(file, len, &other), 0); break;
     case WRITE: REPEAT(c->write(b, out, sizeof out, 0), 0); break;
+    case FOUND: REPEAT(c->found(&other), 0); break;
     case BARRED_6: REPEAT(BOARD_CAUSE(c->apply(b, &barred)), BOARD_CAUSE_IN_THE_WAY); break;
     case GIVEN:
         for (long k = 0; k < times; k++) {

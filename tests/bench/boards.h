@@ -29,11 +29,14 @@ void choose(struct sample *s, int board);
  *
  * Jobs are listed under the role farthest from 0. They are claimed in its line manager's role, or found taken, which is 14; given
  * back by the holder in that role itself; and taken back by another in its line manager's role. A 15 is a claim, or another's
- * release, in that role, of a job under role 0. */
+ * release, in that role, of a job under role 0.
+ *
+ * Founding a board is for the stack alone. */
 enum deed {
     DONE, REFUSED_6, REFUSED_7, COMMAND, CHECK, DERIVES, SCOPE, MANAGER, STEPS, STRETCH, READ, WRITE, CALLS,
     BARRED_6 = CALLS, BARRED_SCOPE, GIVEN, REFUSED_13, GIVEN_COMMAND, VIEW_STORED, VIEW_BY_CALLS,
-    EVENING_RUN, EVENING_APPLIED, CLAIM_DONE, CLAIM_14, CLAIM_15, GIVEN_BACK, TAKEN_BACK, RELEASE_15, LIST_START, LIST_JOB, DEEDS
+    EVENING_RUN, EVENING_APPLIED, CLAIM_DONE, CLAIM_14, CLAIM_15, GIVEN_BACK, TAKEN_BACK, RELEASE_15, LIST_START, LIST_JOB,
+    FOUND, DEEDS
 };
 extern const char *const deed_name[DEEDS];
 /* Does it so many times, and returns the number of calls, or of views, or of commands in the evenings. Ends the program where an answer isn't the right one. */

@@ -87,7 +87,7 @@ late-ordered t c n order f = pass _ _ _ _ (λ k. order (k .disordered)) (pass _ 
 
 -- ---- a look
 
-module _ {t : Tables} {du mu d u m : List ℕ} {n : ℕ} (w : WorkedOut t du mu n d u m) where
+module _ {t : Tables} {d u m : List ℕ} {n : ℕ} (w : WorkedOut t n d u m) where
   -- where all else is well, tables that were worked out with 0 are sound
   pub worked-sound : Shaped t → Live t 0 → Joined t → n ≡ 0 → Sound t
   worked-sound shaped root joined z =

@@ -1,7 +1,7 @@
 -- Refusal tables: what done says, and two tables in a row. Assumes nothing.
-use mathlib.Core.Path.{_≡_, sym, _∙_}
+use mathlib.Core.Path.{_≡_, refl, sym, _∙_}
 use mathlib.Core.Bool.{Bool, true, not, _&&_}
-use mathlib.Core.Logic.{inl, inr, _≢_, _↔_}
+use mathlib.Core.Logic.{_⊎_, inl, inr, ⊎-map, _≢_, _↔_}
 use mathlib.Core.List.{List, [], _∷_, _++_}
 use Prim.Native.Nat.{ℕ}
 use native.Mathlib.Omega.{arith}
@@ -88,3 +88,10 @@ pub first-next : (xs ys : List (ℕ × Type 0)) (n : ℕ) → Passed xs → Firs
 unfolding First
 first-next [] ys n p f = f
 first-next (x ∷ xs) ys n p f = inr (p .0, first-next xs ys n (p .1) f)
+
+-- an answer of two tables in a row is one of the first, or that is passed
+pub first-either : (xs ys : List (ℕ × Type 0)) (n : ℕ) → First (xs ++ ys) n → First xs n ⊎ First xs 0
+unfolding First
+first-either [] ys n f = inr refl
+first-either (x ∷ xs) ys n (inl p) = inl (inl p)
+first-either (x ∷ xs) ys n (inr p) = ⊎-map (λ f. inr (p .0, f)) (λ f. inr (p .0, f)) (first-either xs ys n (p .1))

@@ -14,24 +14,24 @@ use Rattle.sets.proofs.Bools.{true-or-false, test-unique, lt-or-ge}
 use Rattle.sets.proofs.Laws.{ones-mono}
 use Rattle.hierarchy.specs.Tables.{Tables}
 use Rattle.hierarchy.specs.Words.{OutOfScope, Sound}
-use Rattle.hierarchy.specs.Views.{LiveLoops, OutOfScopeBy, RightValues}
+use Rattle.hierarchy.specs.Views.{LiveLoops, OutOfScopeBy, RightValues, WorkedOut}
 use Rattle.hierarchy.specs.First.{First}
 use Rattle.hierarchy.proofs.Admin.{sound-loopless, manager-unique}
 use Rattle.hierarchy.proofs.ClimbLaws.{climb-unique}
 use Rattle.hierarchy.proofs.FirstLaws.{first-unique}
-use Rattle.hierarchy.proofs.ManagerLaws.{values-unique}
+use Rattle.hierarchy.proofs.ManagerLaws.{values-unique, worked-out-unique}
 use Rattle.hierarchy.proofs.Bars.{out-unique, out-by-unique}
 use Rattle.board.specs.Boards.{tablesOf, boardOf, KeepsRight, SoundBoard}
 use Rattle.board.specs.Commands.{DecidedBy, Decided}
 use Rattle.board.specs.Questions.{refusals, Answered, Says, Counts, Tells, DerivesAnswer, ScopeAnswer, Manages, ManagerAnswer, StepsAnswer}
-use Rattle.board.specs.Looks.{late, lateOf, beforeOff, DecidedOff, DerivesOff, ScopeOff, ManagerOff, StepsOff}
+use Rattle.board.specs.Looks.{late, lateOf, beforeOff, DecidedOff, SparedOff, TriedOff, DerivesOff, ScopeOff, ManagerOff, StepsOff}
 use Rattle.board.specs.declared.Board.{Board}
 use Rattle.board.specs.declared.Command.{Command}
 use Rattle.board.specs.declared.commands.Answer.{Answer}
 use Rattle.board.specs.declared.questions.Manager.{Manager}
 use Rattle.board.specs.declared.questions.Manager.the-variants.{Role, Nobody}
 use Rattle.board.specs.Effects.{after}
-use Rattle.board.proofs.Rules.{stable, first-done, done-both}
+use Rattle.board.proofs.Rules.{stable, first-done, done-both, first-either}
 use Rattle.board.proofs.Trying.{late-low}
 use Rattle.board.proofs.Asking.{asked-sound}
 use Rattle.board.proofs.Blaming.{blames-one, names-one}
@@ -47,6 +47,13 @@ pub right-board : {b d : Board} → (LiveLoops (tablesOf b) → ⊥) → KeepsRi
 right-board {b} {d} loopless v w e r =
     let q = values-unique loopless v (subst (λ (t : Tables). RightValues t (d .derives) (d .derivers) (d .manager)) (sym e) w) in
     λ k. boardOf (e k .live) (e k .i) (e k .a) (q .0 k) (q .1 .0 k) (q .1 .1 k) (r k)
+
+-- and so do tables, what was worked out for them, and rights,
+spared-board : {b : Board} {c : Command} {x y : Board} → SparedOff b c x → SparedOff b c y → x ≡ y
+spared-board {x = x} {y} d f =
+    let e = d .tables-are ∙ sym (f .tables-are) in
+    let q = worked-out-unique (d .worked .1) (subst (λ (t : Tables). WorkedOut t (f .worked .0) (y .derives) (y .derivers) (y .manager)) (sym e) (f .worked .1)) .1 in
+    λ k. boardOf (e k .live) (e k .i) (e k .a) (q .0 k) (q .1 .0 k) (q .1 .1 k) ((d .rights-are ∙ sym (f .rights-are)) k)
 
 -- and so do tables, rights and soundness.
 pub one-board : {b d : Board} → SoundBoard b → SoundBoard d → tablesOf b ≡ tablesOf d → b .rights ≡ d .rights → b ≡ d
@@ -94,6 +101,27 @@ decided-off-unique {b} {c} d = decided-one (blames-one (λ a x c d v w. out-by-u
     first-done (late (after (tablesOf b) c) c) refl (subst (λ (t : List (ℕ × Type 0)). First t 0) (late-low _ c low) rows) .1 .0 (subst (λ (t : Tables). LiveLoops t) (d .done z .tables-are) l))
     (f .worked-out low) (g .worked-out low) e r)
     (lt-or-ge 5 (c .code))) d
+
+-- and so is what a command leaves of a board that can be spared
+pub tried-off-unique : {b : Board} {c : Command} {m n : Answer} {x y : Board} → TriedOff b c m x → TriedOff b c n y → (m ≡ n) × (x ≡ y)
+tried-off-unique {b} {c} {m} {n} {x} {y} d e = dite (ℕ-discrete (m .number) 0) settled refused
+  where
+    number : (z : Board) → DecidedOff b c m z → m .number ≡ n .number
+    number z o = dite (ℕ-discrete (n .number) 0) (λ w. first-unique _ _ _ (o .numbered) (e .done w .numbered)) (λ w. first-unique _ _ _ (o .numbered) (e .refused w .numbered))
+
+    settled : m .number ≡ 0 → (m ≡ n) × (x ≡ y)
+    settled z = decided-off-unique (d .done z) (e .done (sym (number x (d .done z)) ∙ z))
+
+    refused : m .number ≢ 0 → (m ≡ n) × (x ≡ y)
+    refused h =
+        let k : n .number ≢ 0 = λ w. h (number b (d .refused h) ∙ w) in
+        let q = decided-off-unique (d .refused h) (e .refused k) .0 in (
+          q,
+          ⊎-elim
+              (λ f. d .early h f ∙ sym (e .early k (subst (λ (a : Answer). First (beforeOff b c) (a .number)) q f)))
+              (λ f. spared-board (d .later h f) (e .later k f))
+              (first-either (beforeOff b c) _ (m .number) (d .refused h .numbered)),
+        )
 
 -- ---- a question, by whatever table, where one value is right
 

@@ -1,5 +1,5 @@
 -- The rows of the table of refusals, each from what the code tests. Assumes nothing.
-use mathlib.Core.Path.{_≡_, refl, sym, ap, _∙_, subst, subst₂}
+use mathlib.Core.Path.{_≡_, refl, sym, ap, _∙_, subst}
 use mathlib.Core.Bool.{Bool, true, false, not, _&&_, _||_, or-false, or-comm}
 use mathlib.Core.Logic.{_⊎_, inl, inr, ⊎-elim, _≢_, _↔_, Iff·trans, Iff·rfl}
 use mathlib.Core.List.{List, [], _++_}
@@ -18,14 +18,14 @@ use Rattle.hierarchy.specs.First.{First}
 use Rattle.hierarchy.specs.Views.{AreViews}
 use Rattle.hierarchy.proofs.Checks.{and-is, or-is, if-is, not-is, eq-is, same-test}
 use Rattle.hierarchy.proofs.Derive.{edge-entry}
-use Rattle.hierarchy.proofs.FirstLaws.{hit, pass, none}
+use Rattle.hierarchy.proofs.FirstLaws.{hit, pass, none, first-unique}
 use Rattle.hierarchy.proofs.ViewLaws.{admin-by}
 use Rattle.board.specs.Boards.{tablesOf, boardOf, SoundBoard}
-use Rattle.board.specs.Commands.{Malformed, asSenior, asJunior, needed, Missing, edgeKind, PartsStand, Standing, Lacking, scoped, strictly, InScope, Outside, plain, Names, unscoped, byRights, byScope, before, DecidedBy, Decided}
+use Rattle.board.specs.Commands.{Malformed, asSenior, asJunior, needed, Missing, edgeKind, PartsStand, Standing, Lacking, scoped, strictly, InScope, Outside, plain, Names, unscoped, byRights, byScope, before, Decided}
 use Rattle.board.specs.Commands.{Malformed.no-code, Malformed.no-actor, Malformed.no-role, Malformed.no-junior, Malformed.no-kind, Malformed.no-rights, Standing.role, Standing.edge, Lacking.no-part, Lacking.no-edge}
 use Rattle.board.specs.Effects.{after}
 use Rattle.board.specs.Rights.{Entitled, rightsAfter}
-use Rattle.board.specs.Looks.{OutsideBy, late, LateBy, lateOf, KeptOff, Remade}
+use Rattle.board.specs.Looks.{OutsideBy, late, RemadeHere, BlamesBy, lateOf, KeptOff, Remade, beforeOff, DecidedOff, TriedOff}
 use Rattle.board.specs.declared.Board.{Board}
 use Rattle.board.specs.declared.Command.{Command}
 use Rattle.board.specs.declared.commands.Answer.{Answer}
@@ -270,12 +270,15 @@ decided-unsound b c e n =
     subst (λ (m : Answer). Decided b c m b) (sym e) (record { numbered = hit _ _ _ n; named = names-plain 1 (λ e. omega arith); done = λ z. absurd (omega (arith, z)); refused = λ _. refl })
 
 -- tables made anew, or left
-module _ {b : Board} {c : Command} {t : Tables} (is : t ≡ after (tablesOf b) c) {n : ℕ} where
-  pub remade-not : First (late t c) n → n ≢ 0 → Remade b c n b
-  remade-not f h = record { numbered = subst (λ (u : Tables). First (late u c) n) is f; done = λ z. absurd (h z); refused = λ _. refl }
+module _ (b : Board) {c : Command} {n : ℕ} {t : Tables} {derives derivers manager : List ℕ} (r : RemadeHere (tablesOf b) c n t derives derivers manager) where
+  late-rows : First (late (after (tablesOf b) c) c) n
+  late-rows = subst (λ (u : Tables). First (late u c) n) (r .tables-are) (r .tried .numbered)
 
-  pub remade-done : {derives derivers manager rights : List ℕ} → LateBy t c n derives derivers manager → n ≡ 0 → Remade b c 0 (boardOf (t .live) (t .i) (t .a) derives derivers manager rights)
-  remade-done l z = record { numbered = subst₂ (λ (u : Tables) (k : ℕ). First (late u c) k) is z (l .numbered); done = λ _. (is, l .right z); refused = λ h. absurd (h refl) }
+  pub remade-not : n ≢ 0 → Remade b c n b
+  remade-not h = record { numbered = late-rows; done = λ z. absurd (h z); refused = λ _. refl }
+
+  pub remade-done : n ≡ 0 → (rights : List ℕ) → Remade b c 0 (boardOf (t .live) (t .i) (t .a) derives derivers manager rights)
+  remade-done z rights = record { numbered = subst (First _) z late-rows; done = λ _. (r .tables-are, r .tried .right z); refused = λ h. absurd (h refl) }
 
 -- the rows afterwards, by the code
 pub late-low : (t : Tables) (c : Command) → c .code ≤ 5 → lateOf t c ≡ late t c
@@ -284,75 +287,99 @@ late-low t c l = rw (lt-leb 6 (c .code) (omega (arith, l)))
 pub late-high : (t : Tables) (c : Command) → 5 < c .code → lateOf t c ≡ []
 late-high t c h = rw (le-leb 6 (c .code) h)
 
-module _ (Derive In : ℕ → ℕ → Type 0) (Blame : Answer → Type 0) (b : Board) (c : Command) where
+-- the rows on the board handed in, one after the other
+module _ (Derive In : ℕ → ℕ → Type 0) (Blame : Answer → Type 0) (t : Tables) (rights : List ℕ) (c : Command) where
   abbrev early : List (ℕ × Type 0)
-  early = unscoped (tablesOf b) c
+  early = unscoped t c
 
+  abbrev Down : Answer → Type 0
+  Down m = First (before Derive In t rights c) (m .number) × Names Blame m
+
+  plainly : (n : ℕ) → n ≢ 6 → First (before Derive In t rights c) n → {m : Answer} → m ≡ plain n → Down m
+  plainly n d f is = subst (λ (m : Answer). Down m) (sym is) (f, names-plain n d)
+
+  pub down-early : (n : ℕ) → n ≢ 0 → First early n → {m : Answer} → m ≡ plain n → Down m
+  down-early n h f = plainly n (first-other 6 early refl n f) (first-refused early _ n h f)
+
+  module _ (k : ℕ) (short : k ≡ 0) (fine : First early k) where
+    past-early : (n : ℕ) → First (byRights Derive rights c ++ byScope In c) n → First (before Derive In t rights c) n
+    past-early n f = first-next early _ n (first-done early refl (subst (First early) short fine)) f
+
+    pub down-unentitled : (Entitled Derive rights c → ⊥) → {m : Answer} → m ≡ plain 13 → Down m
+    down-unentitled n = plainly 13 (λ e. omega arith) (past-early 13 (hit _ _ _ n))
+
+    pub down-scope : Entitled Derive rights c → {m : Answer} → First (byScope In c) (m .number) × Names Blame m → Down m
+    down-scope right {m} f = (past-early (m .number) (pass _ _ _ _ (λ k. k right) (f .0)), f .1)
+
+module _ (b : Board) (c : Command) where
   abbrev rows : List (ℕ × Type 0)
-  rows = before Derive In (tablesOf b) (b .rights) c
+  rows = beforeOff b c
 
   abbrev ends : List (ℕ × Type 0)
   ends = lateOf (after (tablesOf b) c) c
 
-  abbrev Outcome : Answer → Board → Type 0
-  Outcome = DecidedBy (rows ++ ends) Blame (KeptOff b c) b c
+  -- a refusal by the rows on the board handed in leaves the very board
+  module _ {m : Answer} (h : m .number ≢ 0) (f : First rows (m .number) × Names (BlamesBy (b .derives) (b .derivers) c) m) (x : Board) (e : x ≡ b) where
+    pub decided-down : DecidedOff b c m x
+    decided-down = record { numbered = first-refused rows ends (m .number) h (f .0); named = f .1; done = λ z. absurd (h z); refused = λ _. e }
 
-  abbrev Refused : Answer → Type 0
-  Refused m = (x : Board) → x ≡ b → Outcome m x
+    pub tried-down : TriedOff b c m x
+    tried-down = record {
+      done = λ z. absurd (h z);
+      refused = λ _. subst (DecidedOff b c m) e decided-down;
+      early = λ _ _. e;
+      later = λ _ g. absurd (h (first-unique rows (m .number) 0 (f .0) g));
+    }
 
-  -- a refusal gives the very board back, and if it isn't 6 it names nobody
-  plainly : (n : ℕ) → n ≢ 0 → n ≢ 6 → First (rows ++ ends) n → {m : Answer} → m ≡ plain n → Refused m
-  plainly n h d f is x e = subst (λ (m : Answer). Outcome m x) (sym is) (record { numbered = f; named = names-plain n d; done = λ z. absurd (h z); refused = λ _. e })
+  module _ (j : ℕ) (clear : j ≡ 0) (passed : First rows j) where
+    clears : First rows 0
+    clears = subst (First rows) clear passed
 
-  pub decided-early : (n : ℕ) → n ≢ 0 → First early n → {m : Answer} → m ≡ plain n → Refused m
-  decided-early n h f = plainly n h (first-other 6 early refl n f) (first-refused rows ends n h (first-refused early _ n h f))
+    past-all : (n : ℕ) → First ends n → First (rows ++ ends) n
+    past-all n f = first-next rows ends n (first-done rows refl clears) f
 
-  module _ (k : ℕ) (short : k ≡ 0) (fine : First early k) where
-    past-early : (n : ℕ) → First (byRights Derive (b .rights) c ++ byScope In c) n → First rows n
-    past-early n f = first-next early _ n (first-done early refl (subst (First early) short fine)) f
+    made : {m : Answer} → m ≡ plain 0 → First ends 0 → (x : Board) → tablesOf x ≡ after (tablesOf b) c → x .rights ≡ rightsAfter c (b .rights) → KeptOff b c x → DecidedOff b c m x
+    made is f x e r kept = subst (λ (m : Answer). DecidedOff b c m x) (sym is) (record {
+      numbered = past-all 0 f;
+      named = names-plain 0 (λ q. omega arith);
+      done = λ _. record { tables-are = e; rights-are = r; fit = kept };
+      refused = λ h. absurd (h refl);
+    })
 
-    pub decided-unentitled : (Entitled Derive (b .rights) c → ⊥) → {m : Answer} → m ≡ plain 13 → Refused m
-    decided-unentitled n = plainly 13 (λ e. omega arith) (λ e. omega arith) (first-refused rows ends 13 (λ e. omega arith) (past-early 13 (hit _ _ _ n)))
+    -- commands 6 and 7 change the rights alone
+    pub decided-rights : 5 < c .code → Shaped (tablesOf b) → {m : Answer} → m ≡ plain 0 → (rights : List ℕ) → rights ≡ rightsAfter c (b .rights)
+        → DecidedOff b c m (boardOf (b .live) (b .i) (b .a) (b .derives) (b .derivers) (b .manager) rights)
+    decided-rights h shaped is rights r = made is (subst (λ (l : List (ℕ × Type 0)). First l 0) (sym (late-high _ c h)) none) _ (sym (tables-stay (tablesOf b) c shaped h)) r
+        (record { worked-out = λ l. absurd (omega (arith, h, l)); left = λ _. (refl, refl, refl) })
 
-    module _ (right : Entitled Derive (b .rights) c) where
-      past-rights : (n : ℕ) → First (byScope In c) n → First rows n
-      past-rights n f = past-early n (pass _ _ _ _ (λ k. k right) f)
+    -- the others what is made anew besides
+    module _ (low : c .code ≤ 5) (n : ℕ) {y : Board} (remade : Remade b c n y) where
+      late-at : First ends n
+      late-at = subst (λ (l : List (ℕ × Type 0)). First l n) (sym (late-low _ c low)) (remade .numbered)
 
-      pub decided-barred : {m : Answer} → m .number ≢ 0 → First (byScope In c) (m .number) × Names Blame m → Refused m
-      decided-barred {m} h f x e = record {
-        numbered = first-refused rows ends (m .number) h (past-rights (m .number) (f .0));
-        named = f .1;
+      pub decided-late : n ≢ 0 → {m : Answer} → m ≡ plain n → DecidedOff b c m y
+      decided-late h is = subst (λ (m : Answer). DecidedOff b c m y) (sym is) (record {
+        numbered = past-all n late-at;
+        named = names-plain n (first-other 6 (late (after (tablesOf b) c) c) refl n (remade .numbered));
         done = λ z. absurd (h z);
-        refused = λ _. e;
-      }
+        refused = λ _. remade .refused h;
+      })
 
-      module _ (j : ℕ) (clear : j ≡ 0) (scoped : First (byScope In c) j) where
-        past-all : (n : ℕ) → First ends n → First (rows ++ ends) n
-        past-all n f = first-next rows ends n (first-done rows refl (subst (First rows) clear (past-rights j scoped))) f
+      pub decided-done : n ≡ 0 → {m : Answer} → m ≡ plain 0 → (rights : List ℕ) → rights ≡ rightsAfter c (b .rights)
+          → DecidedOff b c m (boardOf (y .live) (y .i) (y .a) (y .derives) (y .derivers) (y .manager) rights)
+      decided-done z is rights r = let d = remade .done z in
+          made is (subst (First ends) z late-at) _ (d .0) r (record { worked-out = λ _. d .1; left = λ h. absurd (omega (arith, h, low)) })
 
-        made : {m : Answer} → m ≡ plain 0 → First ends 0 → (x : Board) → tablesOf x ≡ after (tablesOf b) c → x .rights ≡ rightsAfter c (b .rights) → KeptOff b c x → Outcome m x
-        made is f x e r kept = subst (λ (m : Answer). Outcome m x) (sym is) (record {
-          numbered = past-all 0 f;
-          named = names-plain 0 (λ q. omega arith);
-          done = λ _. record { tables-are = e; rights-are = r; fit = kept };
-          refused = λ h. absurd (h refl);
-        })
+    -- on a board that can be spared what is done is the same, and so is a late refusal, but for what it leaves
+    pub tried-done : {m : Answer} {x : Board} → m ≡ plain 0 → DecidedOff b c m x → TriedOff b c m x
+    tried-done is d = let z = ap (λ (m : Answer). m .number) is in
+        record { done = λ _. d; refused = λ h. absurd (h z); early = λ h. absurd (h z); later = λ h. absurd (h z) }
 
-        -- commands 6 and 7 change the rights alone
-        pub decided-rights : 5 < c .code → Shaped (tablesOf b) → {m : Answer} → m ≡ plain 0 → (rights : List ℕ) → rights ≡ rightsAfter c (b .rights)
-            → Outcome m (boardOf (b .live) (b .i) (b .a) (b .derives) (b .derivers) (b .manager) rights)
-        decided-rights h shaped is rights r = made is (subst (λ (l : List (ℕ × Type 0)). First l 0) (sym (late-high _ c h)) none) _ (sym (tables-stay (tablesOf b) c shaped h)) r
-            (record { worked-out = λ l. absurd (omega (arith, h, l)); left = λ _. (refl, refl, refl) })
-
-        -- the others what is made anew besides
-        module _ (low : c .code ≤ 5) (n : ℕ) {y : Board} (remade : Remade b c n y) where
-          late-at : First ends n
-          late-at = subst (λ (l : List (ℕ × Type 0)). First l n) (sym (late-low _ c low)) (remade .numbered)
-
-          pub decided-late : n ≢ 0 → {m : Answer} → m ≡ plain n → Outcome m y
-          decided-late h is = plainly n h (first-other 6 (late (after (tablesOf b) c) c) refl n (remade .numbered)) (past-all n late-at) is y (remade .refused h)
-
-          pub decided-done : n ≡ 0 → {m : Answer} → m ≡ plain 0 → (rights : List ℕ) → rights ≡ rightsAfter c (b .rights)
-              → Outcome m (boardOf (y .live) (y .i) (y .a) (y .derives) (y .derivers) (y .manager) rights)
-          decided-done z is rights r = let d = remade .done z in
-              made is (subst (First ends) z late-at) _ (d .0) r (record { worked-out = λ _. d .1; left = λ h. absurd (omega (arith, h, low)) })
+    pub tried-late : c .code ≤ 5 → (n : ℕ) {t : Tables} {derives derivers manager : List ℕ} → RemadeHere (tablesOf b) c n t derives derivers manager → n ≢ 0 → {m : Answer} → m ≡ plain n
+        → TriedOff b c m (boardOf (t .live) (t .i) (t .a) derives derivers manager (b .rights))
+    tried-late low n r h is = let q = ap (λ (m : Answer). m .number) is in record {
+      done = λ z. absurd (h (sym q ∙ z));
+      refused = λ _. decided-late low n (remade-not b r h) h is;
+      early = λ g f. absurd (g (first-unique rows _ 0 f clears));
+      later = λ _ _. record { tables-are = r .tables-are; worked = r .tried .worked; rights-are = refl };
+    }

@@ -9,7 +9,7 @@ use lib.Dec.{ltb}
 use Rattle.sets.specs.Sets.{_isIn_}
 use Rattle.hierarchy.specs.Tables.{Tables, row}
 use Rattle.hierarchy.specs.First.{First}
-use Rattle.hierarchy.specs.Views.{InOrder, Inward, LiveLoops, ScopeBy, OutOfScopeBy, AdminBy, RightValues, managerAt, stepsUp}
+use Rattle.hierarchy.specs.Views.{InOrder, Inward, LiveLoops, ScopeBy, OutOfScopeBy, AdminBy, RightValues, WorkedOut, managerAt, stepsUp}
 use Rattle.board.specs.Boards.{tablesOf, KeepsRight}
 use Rattle.board.specs.Effects.{after}
 use Rattle.board.specs.Rights.{namesRights}
@@ -45,10 +45,20 @@ pub record OutsideBy (down up : List ℕ) (c : Command) : Type 0 where
   pub adds : c .code ≡ 1
   pub outside : AdminBy down up (c .actor) (c .role) → ⊥
 
--- the rows afterwards tried, and where none holds, the values worked out
+-- what was worked out for tables, with whatever number
+abbrev pub WorkedOn : Tables → List ℕ → List ℕ → List ℕ → Type 0
+WorkedOn t derives derivers manager = (number : ℕ) × WorkedOut t number derives derivers manager
+
+-- the rows afterwards tried, and the values worked out, which are right where none holds
 pub record LateBy (t : Tables) (c : Command) (number : ℕ) (derives derivers manager : List ℕ) : Type 0 where
   pub numbered : First (late t c) number
   pub right : number ≡ 0 → RightValues t derives derivers manager
+  pub worked : WorkedOn t derives derivers manager
+
+-- the tables of a command and what is worked out for them, in place
+pub record RemadeHere (t : Tables) (c : Command) (number : ℕ) (next : Tables) (derives derivers manager : List ℕ) : Type 0 where
+  pub tables-are : next ≡ after t c
+  pub tried : LateBy next c number derives derivers manager
 
 -- who offends and why, read off the two tables
 abbrev pub BlamesBy : List ℕ → List ℕ → Command → Answer → Type 0
@@ -73,6 +83,19 @@ beforeOff b c = before (DerivesBy (b .derives)) (ScopeBy (b .derives) (b .derive
 
 abbrev pub DecidedOff : Board → Command → Answer → Board → Type 0
 DecidedOff b c = DecidedBy (beforeOff b c ++ lateOf (after (tablesOf b) c) c) (BlamesBy (b .derives) (b .derivers) c) (KeptOff b c) b c
+
+-- A board that the caller can spare. Done is done, and a refusal answers as it does elsewhere; one of the rows on the board handed in leaves the
+-- board, one of the rows afterwards leaves the tables that they are about, with what was worked out for them, and the rights.
+pub record SparedOff (b : Board) (c : Command) (board : Board) : Type 0 where
+  pub tables-are : tablesOf board ≡ after (tablesOf b) c
+  pub worked : WorkedOn (tablesOf board) (board .derives) (board .derivers) (board .manager)
+  pub rights-are : board .rights ≡ b .rights
+
+pub record TriedOff (b : Board) (c : Command) (answer : Answer) (board : Board) : Type 0 where
+  pub done : answer .number ≡ 0 → DecidedOff b c answer board
+  pub refused : answer .number ≢ 0 → DecidedOff b c answer b
+  pub early : answer .number ≢ 0 → First (beforeOff b c) (answer .number) → board ≡ b
+  pub later : answer .number ≢ 0 → First (beforeOff b c) 0 → SparedOff b c board
 
 -- ---- the questions: their rows 2 and 3, and the value read off what is kept
 

@@ -40,8 +40,9 @@ fn same<'t>(
     true
 }
 
-// Whether the board of these parts is sound. What it keeps is worked out anew and compared, so that whoever goes on may read it there.
-pub fn sound_of<'t>(
+// Whether the board of these parts is sound. What it keeps is worked out anew and compared, so that whoever goes on may read it there. The
+// last three are room for that, and hold anything afterwards.
+pub(crate) fn sound_beside<'t>(
     live: u64,
     i: &'t [u64; 64],
     a: &'t [u64; 64],
@@ -49,6 +50,9 @@ pub fn sound_of<'t>(
     derivers: &'t [u64; 64],
     manager: &'t [u8; 64],
     rights: &'t [u8; 64],
+    down: &mut [u64; 64],
+    up: &mut [u64; 64],
+    managers: &mut [u8; 64],
 ) -> bool
     ensures { λ r. ⌜ (r ≡ true) ↔ SoundBoard (boardOf live (now (i .entry)) (now (a .entry)) (now (derives .entry)) (now (derivers .entry)) (now (manager .entry)) (now (rights .entry))) ⌝ }
 {
@@ -66,13 +70,39 @@ pub fn sound_of<'t>(
     if !joined(live, i, a) {
         return false;
     }
+    if work_out(live, i, a, down, up, managers) != 0 {
+        return false;
+    }
+    same(derives, derivers, manager, down, up, managers)
+}
+
+// The same for a caller that has no room of its own.
+pub fn sound_of<'t>(
+    live: u64,
+    i: &'t [u64; 64],
+    a: &'t [u64; 64],
+    derives: &'t [u64; 64],
+    derivers: &'t [u64; 64],
+    manager: &'t [u8; 64],
+    rights: &'t [u8; 64],
+) -> bool
+    ensures { λ r. ⌜ (r ≡ true) ↔ SoundBoard (boardOf live (now (i .entry)) (now (a .entry)) (now (derives .entry)) (now (derivers .entry)) (now (manager .entry)) (now (rights .entry))) ⌝ }
+{
     let mut down = [0u64; 64];
     let mut up = [0u64; 64];
     let mut managers = [0u8; 64];
-    if work_out(live, i, a, &mut down, &mut up, &mut managers) != 0 {
-        return false;
-    }
-    same(derives, derivers, manager, &down, &up, &managers)
+    sound_beside(
+        live,
+        i,
+        a,
+        derives,
+        derivers,
+        manager,
+        rights,
+        &mut down,
+        &mut up,
+        &mut managers,
+    )
 }
 
 // Whether a board is sound.

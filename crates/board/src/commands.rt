@@ -12,11 +12,11 @@ ghost use Rattle.hierarchy.specs.First.{First};
 ghost use Rattle.hierarchy.specs.Tables.{tables, row, IsTable, hasI, hasA};
 ghost use Rattle.hierarchy.specs.Views.{ScopeBy};
 ghost use Rattle.board.specs.Boards.{boardOf};
-ghost use Rattle.board.specs.Looks.{OutOfOrder, OutsideBy, LateBy, Remade, BlamesBy, DecidedOff};
-ghost use Rattle.board.specs.Commands.{Malformed, needed, scoped, strictly, InScope, conditions, Offends, plain, Names, unscoped, byScope, Decided};
+ghost use Rattle.board.specs.Looks.{DerivesBy, OutOfOrder, OutsideBy, LateBy, RemadeHere, Remade, BlamesBy, DecidedOff, TriedOff};
+ghost use Rattle.board.specs.Commands.{Malformed, needed, scoped, strictly, InScope, conditions, Offends, plain, Names, unscoped, byScope, before, Decided};
 use crate::Board;
 use crate::Command;
-use crate::checks::sound_of;
+use crate::checks::sound_beside;
 use crate::effects::change;
 use crate::effects::has_part;
 use crate::rights::entitled;
@@ -390,9 +390,9 @@ fn refused_after<'t>(
     number
 }
 
-// Makes the change to tables and to what follows from them, unless a refusal of the tables that the command would leave forbids it: then
-// all six stay.
-fn remake(
+// Makes the tables those that the command would leave, and works out what a board of these keeps, in place. A refusal of these tables leaves
+// them there.
+fn remake_here(
     live: &mut u64,
     i: &mut [u64; 64],
     a: &mut [u64; 64],
@@ -401,39 +401,114 @@ fn remake(
     manager: &mut [u8; 64],
     c: Command,
 ) -> u8
-    ensures { λ r. ⌜ ((rights : List ℕ) → Remade (boardOf (now (live .entry)) (now (i .entry)) (now (a .entry)) (now (derives .entry)) (now (derivers .entry)) (now (manager .entry)) rights) c r (boardOf (now (live .exit)) (now (i .exit)) (now (a .exit)) (now (derives .exit)) (now (derivers .exit)) (now (manager .exit)) rights)) ⌝ }
+    ensures { λ r. ⌜ RemadeHere (tables (now (live .entry)) (now (i .entry)) (now (a .entry))) c r (tables (now (live .exit)) (now (i .exit)) (now (a .exit))) (now (derives .exit)) (now (derivers .exit)) (now (manager .exit)) ⌝ }
 {
     whole(*i);
     whole(*a);
+    *live = change(*live, i, a, c);
+    refused_after(*live, i, a, c, derives, derivers, manager)
+}
+
+// The same beside the board: stored there where no refusal of these tables forbids it, else all six stay.
+fn remake(
+    live: &mut u64,
+    i: &mut [u64; 64],
+    a: &mut [u64; 64],
+    derives: &mut [u64; 64],
+    derivers: &mut [u64; 64],
+    manager: &mut [u8; 64],
+    c: Command,
+    down: &mut [u64; 64],
+    up: &mut [u64; 64],
+    managers: &mut [u8; 64],
+) -> u8
+    ensures { λ r. ⌜ ((rights : List ℕ) → Remade (boardOf (now (live .entry)) (now (i .entry)) (now (a .entry)) (now (derives .entry)) (now (derivers .entry)) (now (manager .entry)) rights) c r (boardOf (now (live .exit)) (now (i .exit)) (now (a .exit)) (now (derives .exit)) (now (derivers .exit)) (now (manager .exit)) rights)) ⌝ }
+{
+    let mut new_live = *live;
     let mut new_i = *i;
     let mut new_a = *a;
-    let new_live = change(*live, &mut new_i, &mut new_a, c);
-    let mut down = [0u64; 64];
-    let mut up = [0u64; 64];
-    let mut managers = [0u8; 64];
-    let late = refused_after(
-        new_live,
-        &new_i,
-        &new_a,
-        c,
-        &mut down,
-        &mut up,
-        &mut managers,
-    );
+    let late = remake_here(&mut new_live, &mut new_i, &mut new_a, down, up, managers, c);
     if late != 0 {
         return late;
     }
     *live = new_live;
     *i = new_i;
     *a = new_a;
-    *derives = down;
-    *derivers = up;
-    *manager = managers;
+    *derives = *down;
+    *derivers = *up;
+    *manager = *managers;
     0
 }
 
+// The refusals on the board handed in, past the first, with whom a 6 names; its own sets say what deriving and scope are.
+fn turned_down<'t>(
+    live: u64,
+    i: &'t [u64; 64],
+    a: &'t [u64; 64],
+    derives: &'t [u64; 64],
+    derivers: &'t [u64; 64],
+    rights: &'t [u8; 64],
+    c: Command,
+) -> Answer
+    ensures { λ r. ⌜ First (before (DerivesBy (now (derives .entry))) (ScopeBy (now (derives .entry)) (now (derivers .entry))) (tables live (now (i .entry)) (now (a .entry))) (now (rights .entry)) c) (r .number) × Names (BlamesBy (now (derives .entry)) (now (derivers .entry)) c) r ⌝ }
+{
+    let early = refused_before(live, i, a, c);
+    if early != 0 {
+        return Answer::plain(early);
+    }
+    if !entitled(derives, rights, c) {
+        return Answer::plain(13);
+    }
+    refused_by_scope(derives, derivers, c)
+}
+
 // One command on the board of these parts, whose own sets say what deriving and scope are: done changes them, and a refusal leaves all
-// seven. Commands 6 and 7 leave the tables, so nothing is worked out for them.
+// seven. Commands 6 and 7 leave the tables, so nothing is worked out for them. The last three are room to work in.
+fn decide_beside(
+    live: &mut u64,
+    i: &mut [u64; 64],
+    a: &mut [u64; 64],
+    derives: &mut [u64; 64],
+    derivers: &mut [u64; 64],
+    manager: &mut [u8; 64],
+    rights: &mut [u8; 64],
+    c: Command,
+    down: &mut [u64; 64],
+    up: &mut [u64; 64],
+    managers: &mut [u8; 64],
+) -> Answer
+    ensures { λ r. ⌜ DecidedOff (boardOf (now (live .entry)) (now (i .entry)) (now (a .entry)) (now (derives .entry)) (now (derivers .entry)) (now (manager .entry)) (now (rights .entry))) c r (boardOf (now (live .exit)) (now (i .exit)) (now (a .exit)) (now (derives .exit)) (now (derivers .exit)) (now (manager .exit)) (now (rights .exit))) ⌝ }
+{
+    let first = turned_down(*live, i, a, derives, derivers, rights, c);
+    if first.number != 0 {
+        return first;
+    }
+    if 5 < c.code {
+        whole(*i);
+        whole(*a);
+        hand(rights, c);
+        return Answer::plain(0);
+    }
+    let late = remake(
+        live,
+        i,
+        a,
+        derives,
+        derivers,
+        manager,
+        c,
+        down,
+        up,
+        managers,
+    );
+    if late != 0 {
+        return Answer::plain(late);
+    }
+    hand(rights, c);
+    Answer::plain(0)
+}
+
+// The same for a caller that has no room of its own.
 pub fn decide(
     live: &mut u64,
     i: &mut [u64; 64],
@@ -446,16 +521,41 @@ pub fn decide(
 ) -> Answer
     ensures { λ r. ⌜ DecidedOff (boardOf (now (live .entry)) (now (i .entry)) (now (a .entry)) (now (derives .entry)) (now (derivers .entry)) (now (manager .entry)) (now (rights .entry))) c r (boardOf (now (live .exit)) (now (i .exit)) (now (a .exit)) (now (derives .exit)) (now (derivers .exit)) (now (manager .exit)) (now (rights .exit))) ⌝ }
 {
-    let early = refused_before(*live, i, a, c);
-    if early != 0 {
-        return Answer::plain(early);
-    }
-    if !entitled(derives, rights, c) {
-        return Answer::plain(13);
-    }
-    let barred = refused_by_scope(derives, derivers, c);
-    if barred.number != 0 {
-        return barred;
+    let mut down = [0u64; 64];
+    let mut up = [0u64; 64];
+    let mut managers = [0u8; 64];
+    decide_beside(
+        live,
+        i,
+        a,
+        derives,
+        derivers,
+        manager,
+        rights,
+        c,
+        &mut down,
+        &mut up,
+        &mut managers,
+    )
+}
+
+// The same for a caller that can spare the board, and so without a copy of it: a refusal of the tables that the command would leave leaves
+// these there.
+pub fn try_on(
+    live: &mut u64,
+    i: &mut [u64; 64],
+    a: &mut [u64; 64],
+    derives: &mut [u64; 64],
+    derivers: &mut [u64; 64],
+    manager: &mut [u8; 64],
+    rights: &mut [u8; 64],
+    c: Command,
+) -> Answer
+    ensures { λ r. ⌜ TriedOff (boardOf (now (live .entry)) (now (i .entry)) (now (a .entry)) (now (derives .entry)) (now (derivers .entry)) (now (manager .entry)) (now (rights .entry))) c r (boardOf (now (live .exit)) (now (i .exit)) (now (a .exit)) (now (derives .exit)) (now (derivers .exit)) (now (manager .exit)) (now (rights .exit))) ⌝ }
+{
+    let first = turned_down(*live, i, a, derives, derivers, rights, c);
+    if first.number != 0 {
+        return first;
     }
     if 5 < c.code {
         whole(*i);
@@ -463,7 +563,7 @@ pub fn decide(
         hand(rights, c);
         return Answer::plain(0);
     }
-    let late = remake(live, i, a, derives, derivers, manager, c);
+    let late = remake_here(live, i, a, derives, derivers, manager, c);
     if late != 0 {
         return Answer::plain(late);
     }
@@ -471,7 +571,8 @@ pub fn decide(
     Answer::plain(0)
 }
 
-// One command on the board of these parts, which is looked at as a whole before.
+// One command on the board of these parts, which is looked at as a whole before. Both work in the same room, since stack is dear where
+// this runs.
 pub fn settle(
     live: &mut u64,
     i: &mut [u64; 64],
@@ -484,10 +585,36 @@ pub fn settle(
 ) -> Answer
     ensures { λ r. ⌜ Decided (boardOf (now (live .entry)) (now (i .entry)) (now (a .entry)) (now (derives .entry)) (now (derivers .entry)) (now (manager .entry)) (now (rights .entry))) c r (boardOf (now (live .exit)) (now (i .exit)) (now (a .exit)) (now (derives .exit)) (now (derivers .exit)) (now (manager .exit)) (now (rights .exit))) ⌝ }
 {
-    if !sound_of(*live, i, a, derives, derivers, manager, rights) {
+    let mut down = [0u64; 64];
+    let mut up = [0u64; 64];
+    let mut managers = [0u8; 64];
+    if !sound_beside(
+        *live,
+        i,
+        a,
+        derives,
+        derivers,
+        manager,
+        rights,
+        &mut down,
+        &mut up,
+        &mut managers,
+    ) {
         return Answer::plain(1);
     }
-    decide(live, i, a, derives, derivers, manager, rights, c)
+    decide_beside(
+        live,
+        i,
+        a,
+        derives,
+        derivers,
+        manager,
+        rights,
+        c,
+        &mut down,
+        &mut up,
+        &mut managers,
+    )
 }
 
 // One command on a board by value.

@@ -144,9 +144,9 @@ module _ {f : List ℕ} {t : Tables} {rights : List ℕ} (number : ℕ) (frame :
       [] [] number (refl, named-by is Loops, (refl, named-by is (λ s. Managed s → ⊥), tt)) (λ _ g. g) own))
 
 -- where neither frame nor record has a fault, it is the board that may be in trouble
-module _ {f : List ℕ} {live n m number : ℕ} {w : Bool} {i a du mu d u ms : List ℕ} (rights : List ℕ)
+module _ {f : List ℕ} {live n m number : ℕ} {w : Bool} {i a d u ms : List ℕ} (rights : List ℕ)
     (frame : GoodFrame f n m w) (roles : GoodRoles f n live) (edges : GoodEdges f n m live i a) (granted : Granted f n m w live rights)
-    (worked : WorkedOut (tables live i a) du mu number d u ms) where
+    (worked : WorkedOut (tables live i a) number d u ms) where
   abbrev t : Tables
   t = tables live i a
 

@@ -4,7 +4,7 @@ use crate::opening::open;
 use crate::writer::put;
 use board::Command;
 use board::commands::Answer;
-use board::commands::decide;
+use board::commands::try_on;
 
 // Where a number arose: in the command (and every 0), in the file handed in, in writing the new one.
 pub enum Place {
@@ -20,7 +20,8 @@ pub struct Commanded {
     pub len: usize,
 }
 
-// Done leaves the file of the board afterwards at the start of `out`, with its length; a refusal leaves `out` as it was.
+// Done leaves the file of the board afterwards at the start of `out`, with its length; a refusal leaves `out` as it was. The board read is
+// the one that is changed: nobody else has it.
 pub fn command(file: &[u8], c: Command, out: &mut [u8]) -> Commanded
     ensures { λ r. ⌜ CommandAnswer (now (file .entry)) c (now (out .entry)) (now (out .exit)) (r .place) (r .answer) (r .len) ⌝ }
 {
@@ -47,7 +48,7 @@ pub fn command(file: &[u8], c: Command, out: &mut [u8]) -> Commanded
         };
     }
     let mut live = f.live;
-    let answer = decide(
+    let answer = try_on(
         &mut live,
         &mut i,
         &mut a,

@@ -39,8 +39,8 @@ module _ {t : Tables} (loopless : LiveLoops t → ⊥) where
   values-unique v w = let e = views-unique (v .views) (w .views) in (e .0, (e .1, managers-unique (v .managers) (w .managers)))
 
 -- Two outcomes of working out coincide.
-pub worked-out-unique : {t : Tables} {derivers manager : List ℕ} {n n′ : ℕ} {d u m d′ u′ m′ : List ℕ}
-    → WorkedOut t derivers manager n d u m → WorkedOut t derivers manager n′ d′ u′ m′ → (n ≡ n′) × ((d ≡ d′) × ((u ≡ u′) × (m ≡ m′)))
+pub worked-out-unique : {t : Tables} {n n′ : ℕ} {d u m d′ u′ m′ : List ℕ}
+    → WorkedOut t n d u m → WorkedOut t n′ d′ u′ m′ → (n ≡ n′) × ((d ≡ d′) × ((u ≡ u′) × (m ≡ m′)))
 worked-out-unique {t} {n = n} {n′ = n′} {d} {u} {m} {d′} {u′} {m′} v w = (same, dite (ℕ-discrete n 7) seven other)
   where
     same : n ≡ n′

@@ -1,6 +1,6 @@
 -- What roles lead to, settled from the juniors up. Assumes nothing.
 use mathlib.Core.Path.{_≡_, refl, sym, ap, _∙_, subst}
-use mathlib.Core.Bool.{true, false, not, _&&_, _||_}
+use mathlib.Core.Bool.{Bool, true, false, not, _&&_, _||_}
 use mathlib.Core.Logic.{_⊎_, inl, inr, ⊎-elim, ⊎-map, _↔_, _≢_, dite}
 use mathlib.Core.List.{List}
 use Prim.Native.Nat.{ℕ, zero, suc, _+_, _-_, _^_, _≤_, _<_}
@@ -110,16 +110,16 @@ chain-in done f {x} m (step {y = y} e c) = chain-in done f (f x y m e) c
 
 -- ---- nobody is done at first
 
-pub at-first : {live : ℕ} {i a down : List ℕ} → down ≡ replicate 64 0 → SoFar live i a (replicate 64 0) down (replicate 64 0) 0
-at-first {i = i} {a} q = record {
+pub at-first : {live : ℕ} {i a by-i down path : List ℕ} → down ≡ replicate 64 0 → by-i ≡ replicate 64 0 → length path ≡ 64 → SoFar live i a by-i down path 0
+at-first {i = i} {a} d b n = record {
   right = record {
-    i-rows = rows-start;
-    a-rows = subst (λ (d : List ℕ). RightRows a (ByI i) d 0) (sym q) rows-start;
+    i-rows = rw b rows-start;
+    a-rows = rw d rows-start;
     closed = λ x y e. absurd (false-no (bit-zero x) e);
     ends = λ x e. absurd (false-no (bit-zero x) e);
   };
   part = λ x e. absurd (false-no (bit-zero x) e);
-  places = refl;
+  places = n;
 }
 
 -- ---- a role whose juniors are done is settled
@@ -348,21 +348,20 @@ module _ {live : ℕ} {i a by-i down : List ℕ} (right : Right i a by-i down li
     λ d. let s = derives↔descends .0 d in right .a-rows .right x m z .1 (record { at = s .mid; chain = s .down-a; on = record { at = z; chain = s .down-i; on = refl } }),
   )
 
-  pub filled-down : FilledDown (tables live i a) true down
+  filled-down : FilledDown (tables live i a) true down
   filled-down = record {
     order = (λ _ x m. all-settle m (right .ends x m), λ _. refl);
-    down-rows = right .a-rows .rows;
+    down-rows = λ _. right .a-rows .rows;
     down-is = λ _ x z. ⊎-elim
         (λ m. of-live x m z)
         (λ n. (λ e. absurd (false-no (ap (λ (w : ℕ). bit w z) (right .a-rows .blank x n) ∙ bit-zero z) e), λ d. absurd (false-no n (d .from))))
         (true-or-false (bit live x));
-    blank = λ q. absurd (false-no q refl);
   }
 
-pub filled-blank : {live : ℕ} {i a down : List ℕ} → (InOrder (tables live i a) → ⊥) → down ≡ replicate 64 0 → FilledDown (tables live i a) false down
-filled-blank n q = record {
-  order = (λ e. absurd (false-no refl e), λ o. absurd (n o));
-  down-rows = ap length q;
+pub filled : {live : ℕ} {i a by-i down : List ℕ} (r : Bool) → Ordered live i a by-i down r → FilledDown (tables live i a) r down
+filled true o = filled-down (o .right refl)
+filled false o = record {
+  order = (λ e. absurd (false-no refl e), λ n. absurd (o .stuck refl n));
+  down-rows = λ e. absurd (false-no refl e);
   down-is = λ e. absurd (false-no refl e);
-  blank = λ _. q;
 }

@@ -4,7 +4,7 @@ use mathlib.Core.Logic.{_⊎_, _↔_, _≢_}
 use mathlib.Core.Bool.{Bool, true, false, _&&_, _||_}
 use mathlib.Core.List.{List}
 use Prim.Native.Nat.{ℕ, _<_}
-use lib.ListN.{length, replicate}
+use lib.ListN.{length}
 use Rattle.sets.specs.Sets.{bit, _isIn_, _areIn_, same?}
 use Rattle.hierarchy.specs.Tables.{Tables, tables, row}
 use Rattle.hierarchy.specs.Words.{Chain, Derives, Administrator, LineManager}
@@ -88,12 +88,11 @@ pub record Ordered (live : ℕ) (i a by-i down : List ℕ) (r : Bool) : Type 0 w
   pub right : r ≡ true → Right i a by-i down live
   pub stuck : r ≡ false → InOrder (tables live i a) → ⊥
 
--- r is whether the live roles are in order; down is then what they derive, else blank
+-- r is whether the live roles are in order; down is then what they derive
 pub record FilledDown (t : Tables) (r : Bool) (down : List ℕ) : Type 0 where
   pub order : (r ≡ true) ↔ InOrder t
-  pub down-rows : length down ≡ 64
+  pub down-rows : r ≡ true → length down ≡ 64
   pub down-is : r ≡ true → (x y : ℕ) → (y isIn row down x) ↔ Derives t x y
-  pub blank : r ≡ false → down ≡ replicate 64 0
 
 -- x has gone into the row of each role of s
 pub record Marked (up : List ℕ) (s x : ℕ) (marked : List ℕ) : Type 0 where

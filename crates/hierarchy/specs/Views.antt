@@ -94,11 +94,11 @@ pub record RightValues (t : Tables) (derives derivers manager : List ℕ) : Type
   pub managers : AreManagers t manager
 
 -- Worked out for tables: 7 where the live roles are not in order, 9 where one but 0 has no administrator. Unless it is 7 the three are
--- right. With 7, `derives` is blank, and `derivers` and `manager` are as they were.
-pub record WorkedOut (t : Tables) (derivers manager : List ℕ) (number : ℕ) (derives′ derivers′ manager′ : List ℕ) : Type 0 where
+-- right. With 7 they are blank: nobody derives, is derived or has a line manager.
+pub record WorkedOut (t : Tables) (number : ℕ) (derives derivers manager : List ℕ) : Type 0 where
   pub numbered : First ((7, (InOrder t → ⊥)) ∷ (9, (Managed t → ⊥)) ∷ []) number
-  pub right : number ≢ 7 → RightValues t derives′ derivers′ manager′
-  pub disordered : number ≡ 7 → (derives′ ≡ replicate 64 0) × ((derivers′ ≡ derivers) × (manager′ ≡ manager))
+  pub right : number ≢ 7 → RightValues t derives derivers manager
+  pub disordered : number ≡ 7 → (derives ≡ replicate 64 0) × ((derivers ≡ replicate 64 0) × (manager ≡ replicate 64 64))
 
 -- Going up from r by the managers of a row, with k steps behind: how many it takes to role 0, and 64 where n looks don't arrive.
 unfoldable pub stepsUp : List ℕ → ℕ → ℕ → ℕ → ℕ

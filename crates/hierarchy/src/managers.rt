@@ -52,7 +52,7 @@ fn nearest(down: &[u64; 64], administrators: u64) -> u8
 }
 
 // Nobody has a line manager.
-fn clear(manager: &mut [u8; 64])
+pub(crate) fn clear(manager: &mut [u8; 64])
     ensures { λ _. ⌜ now (manager .exit) ≡ replicate 64 64 ⌝ }
 {
     *manager = [NONE; 64];

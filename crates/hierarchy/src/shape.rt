@@ -7,3 +7,8 @@ ghost use lib.ListN.{length};
 pub(crate) fn whole(t: [u64; 64])
     ensures { λ _. ⌜ length t ≡ 64 ⌝ }
 {}
+
+// A row has 64 places, in the same way.
+pub(crate) fn whole_row(t: [u8; 64])
+    ensures { λ _. ⌜ length t ≡ 64 ⌝ }
+{}

@@ -7,6 +7,7 @@ ghost use Rattle.sets.specs.Sets.{_isIn_};
 ghost use Rattle.hierarchy.specs.Tables.{tables};
 ghost use Rattle.hierarchy.specs.Views.{Turned};
 ghost use Rattle.hierarchy.specs.Engine.{InRows, RowSettled, SoFar, Ready, Finished, Starts, Descended, Ordered, FilledDown, Marked};
+use crate::shape::whole_row;
 use sets::Pick;
 use sets::but_lowest;
 use sets::has;
@@ -34,7 +35,7 @@ fn rows(table: &[u64; 64], s: u64) -> u64
 }
 
 // No row has a member.
-fn blank(table: &mut [u64; 64])
+pub(crate) fn blank(table: &mut [u64; 64])
     ensures { λ _. ⌜ now (table .exit) ≡ replicate 64 0 ⌝ }
 {
     *table = [0; 64];
@@ -147,23 +148,22 @@ fn mark(up: &mut [u64; 64], s: u64, x: usize)
 }
 
 // Settles the roles of a board from the juniors up: whether its live roles are in order, which is that there is no loop and every junior
-// of a live role lives. Row x of `down` becomes the set of what x derives; where there is no order all rows become blank.
+// of a live role lives. Row x of `down` then becomes the set of what x derives. The other two are room to work in; they, and `down` where
+// there is no order, hold anything afterwards.
 pub(crate) fn fill_down<'t>(
     live: u64,
     i: &'t [u64; 64],
     a: &'t [u64; 64],
     down: &mut [u64; 64],
+    by_i: &mut [u64; 64],
+    path: &mut [u8; 64],
 ) -> bool
     ensures { λ r. ⌜ FilledDown (tables live (now (i .entry)) (now (a .entry))) r (now (down .exit)) ⌝ }
 {
-    let mut by_i = [0u64; 64];
-    let mut path = [0u8; 64];
     blank(down);
-    if !order(live, i, a, &mut by_i, down, &mut path) {
-        blank(down);
-        return false;
-    }
-    true
+    blank(by_i);
+    whole_row(*path);
+    order(live, i, a, by_i, down, path)
 }
 
 // Row y of `up` becomes the set of the live roles whose row in `down` has y: what derives y, where all live roles settle.

@@ -25,6 +25,7 @@ returns c =
     let w = c .before .before .work-out .ensures in record {
       numbered = late-disordered (left (c .before .before .before .before .before .before)) _ _ (shaped (c .before .before .before .before .before .before)) (worked-disordered w (c .before .if1 .taken)) (c .out-of-order .ensures);
       right = λ z. ⊎-elim (λ p. absurd (omega (arith, z, p .1))) (λ p. absurd (omega (arith, z, p .1))) (c .out-of-order .ensures);
+      worked = (_, w);
     }
 
 outside-requires : tie.Need-outside-requires
@@ -36,6 +37,7 @@ returns-2 c =
     let q = c .before .before .before .before .if1 .left in record {
       numbered = late-ordered (left (c .before .before .before .before .before .before .before .before .before)) _ 8 (worked-order w q) (hit _ _ _ (outside-row _ _ (w .right q .views) .0 (holds (c .before .outside .ensures) (c .if2 .taken))));
       right = λ z. absurd (omega (arith, z));
+      worked = (_, w);
     }
 
 returns-3 : tie.Need-returns-3
@@ -45,6 +47,7 @@ returns-3 c =
       numbered = late-ordered (left (c .before .before .before .before .before .before .before .before .before)) _ _ (worked-order w q)
           (pass _ _ _ _ (λ o. fails (c .before .outside .ensures) (c .if2 .left) (outside-row _ _ (w .right q .views) .1 o)) (worked-rest w q));
       right = λ _. w .right q;
+      worked = (_, w);
     }
 
 pub refused-after-spec : {M : Type 1} → statement M

@@ -1,34 +1,16 @@
-use Rattle.board.proofs.SoundAfter.{whole-after}
-use Rattle.board.proofs.Trying.{remade-not, remade-done}
 use borrow.Author.Needs.{needs}
+use Rattle.board.proofs.Trying.{remade-not, remade-done}
 use Rattle.board.proofs.commands.remake.Statement.{statement}
 use Rattle.board.proofs.commands.remake.Tie as tie
 
-whole-requires : tie.Need-whole-requires
-whole-requires c κs = search needs
-
-whole-requires-2 : tie.Need-whole-requires-2
-whole-requires-2 c κs = search needs
-
-change-requires : tie.Need-change-requires
-change-requires c κs = search needs
-
-refused-after-requires : tie.Need-refused-after-requires
-refused-after-requires c κs = whole-after _ _ (c .before .before .before .before .before .change .ensures)
+remake-here-requires : tie.Need-remake-here-requires
+remake-here-requires c κs = search needs
 
 returns : tie.Need-returns
-returns c = λ rights. remade-not (c .before .before .before .before .before .before .before .change .ensures) (c .before .refused-after .ensures .numbered) (c .if1 .taken)
+returns c = λ rights. remade-not _ (c .before .remake-here .ensures) (c .if1 .taken)
 
 returns-2 : tie.Need-returns-2
-returns-2 c = λ rights. remade-done (c .before .before .before .before .before .before .before .change .ensures) (c .before .refused-after .ensures) (c .if1 .left)
+returns-2 c = λ rights. remade-done _ (c .before .before .before .before .remake-here .ensures) (c .before .before .before .if1 .left) rights
 
 pub remake-spec : {M : Type 1} → statement M
-remake-spec =
-    tie.close
-    (tie.spec
-    whole-requires
-    whole-requires-2
-    change-requires
-    refused-after-requires
-    returns
-    returns-2)
+remake-spec = tie.close (tie.spec remake-here-requires returns returns-2)

@@ -4,8 +4,8 @@ use Rattle.sets.proofs.Bools.{false-no}
 use Rattle.hierarchy.specs.Tables.{tables, Shaped}
 use Rattle.board.proofs.Looking.{holds, fails, never, worked-sound, worked-unsound, worked-right, kept-is}
 use borrow.Author.Needs.{needs}
-use Rattle.board.proofs.checks.sound_of.Statement.{statement}
-use Rattle.board.proofs.checks.sound_of.Tie as tie
+use Rattle.board.proofs.checks.sound_beside.Statement.{statement}
+use Rattle.board.proofs.checks.sound_beside.Tie as tie
 
 shaped : (c : tie.After-whole-row) → Shaped (tables (c .before .before .before .before .before .before .before .before .before .before .args .live) (c .before .before .before .before .before .before .before .before .before .before .args .i .now) (c .before .before .before .before .before .before .before .before .before .before .args .a .now))
 shaped c =
@@ -64,8 +64,8 @@ returns-5 c =
     (holds (c .before .before .before .before .before .before .before .before .before .before .before .before .before .before .rightful .ensures) (not-false _ (c .before .before .before .before .before .before .before .before .before .before .before .before .before .if1 .left)))
     (worked-right w z) (c .same .ensures)
 
-pub sound-of-spec : {M : Type 1} → statement M
-sound-of-spec =
+pub sound-beside-spec : {M : Type 1} → statement M
+sound-beside-spec =
     tie.close
     (tie.spec
     whole-requires
