@@ -368,8 +368,9 @@ function copy(i, o, wide,    d) {
 
 function jump_by_table(f, i,    k) {
     if (!find_table(f, i)) return refuse(f, "jumps by '" said[i] "', which isn't seen to be a table")
+    if (table_length < 0) return refuse(f, "jumps by a table of no known length")
     table_jump[++tables] = i
-    for (k = 0; table_length < 0 || k < table_length; k++) {
+    for (k = 0; k < table_length; k++) {
         target = 0
         if (kind == "program") read_entry(k)
         else if ((table_section, table_start + 4 * k) in entry) place(entry[table_section, table_start + 4 * k], -4 * k)
@@ -377,7 +378,7 @@ function jump_by_table(f, i,    k) {
         is_target[target] = 1
         reach(f, target)
     }
-    if (k < table_length || k == 0) refuse(f, "jumps by a table whose entry " k " leads out of it")
+    if (k < table_length) refuse(f, "jumps by a table whose entry " k " leads out of it")
 }
 
 # In a program an entry has four bytes, the lowest first: how far from the table's start.
@@ -389,8 +390,7 @@ function read_entry(k,    b, v) {
     if (("", table_start + v) in where) target = where["", table_start + v]
 }
 
-# Where the table stands, and how many entries it has; -1 where nothing says it, and it is read as far as it leads into the
-# function.
+# Where the table stands, and how many entries it has; -1 where nothing says it.
 function find_table(f, i,    o, to, base, sum, load, set) {
     if (!(substr(args[i], 2) in register)) return 0
     to = register[substr(args[i], 2)]

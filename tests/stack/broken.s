@@ -60,19 +60,26 @@ into_a_table:
 # The table is another's.
 #= not_its_table refused in not_its_table: jumps by a table whose entry 0 leads out of it
 not_its_table:
+        cmp     $0x0, %edi
+        ja      .Lnot
         lea     .Ltable(%rip), %rcx
         movslq  (%rcx,%rdi,4), %rax
         add     %rcx, %rax
         jmp     *%rax
+.Lnot:  ret
 
 # An entry leads to the jump itself, which then goes anywhere.
 #= table_into_itself refused in table_into_itself: jumps by 'jmp *%rax', which isn't seen to be a table
 table_into_itself:
+        cmp     $0x0, %edi
+        ja      .Litself_not
         lea     .Litself_table(%rip), %rcx
         movslq  (%rcx,%rdi,4), %rax
         add     %rcx, %rax
 .Litself:
         jmp     *%rax
+.Litself_not:
+        ret
 
 #= late_table refused in late_table: jumps by 'jmp *%rax', which isn't seen to be a table
 late_table:
@@ -106,6 +113,57 @@ short_table:
         add     %rcx, %rax
         jmp     *%rax
 .Lshort:
+        ret
+
+# Nothing says how long the table is: there is no check, what is looked up isn't what was checked, or there is a way past the check or
+# past what it compares.
+#= unchecked_table refused in unchecked_table: jumps by a table of no known length
+unchecked_table:
+        lea     .Lunchecked_table(%rip), %rcx
+        movslq  (%rcx,%rdi,4), %rax
+        add     %rcx, %rax
+        jmp     *%rax
+.Lunchecked:
+        ret
+
+#= moved_table refused in moved_table: jumps by a table of no known length
+moved_table:
+        cmp     $0x0, %edi
+        ja      .Lmoved
+        inc     %edi
+        lea     .Lmoved_table(%rip), %rcx
+        movslq  (%rcx,%rdi,4), %rax
+        add     %rcx, %rax
+        jmp     *%rax
+.Lmoved:
+        ret
+
+#= past_the_check refused in past_the_check: jumps by a table of no known length
+past_the_check:
+        test    %rsi, %rsi
+        je      .Lpast_check
+        cmp     $0x0, %edi
+        ja      .Lpast_end
+.Lpast_check:
+        lea     .Lpast_table(%rip), %rcx
+        movslq  (%rcx,%rdi,4), %rax
+        add     %rcx, %rax
+        jmp     *%rax
+.Lpast_end:
+        ret
+
+#= past_the_comparison refused in past_the_comparison: jumps by a table of no known length
+past_the_comparison:
+        test    %rsi, %rsi
+        je      .Lcompared
+        cmp     $0x0, %edi
+.Lcompared:
+        ja      .Lcompared0
+        lea     .Lcompared_table(%rip), %rcx
+        movslq  (%rcx,%rdi,4), %rax
+        add     %rcx, %rax
+        jmp     *%rax
+.Lcompared0:
         ret
 
 # As alloca and arrays of a length that is found out when it runs.
@@ -284,6 +342,14 @@ traps:  int3
         .balign 4
 .Lshort_table:
         .long   .Lshort - .Lshort_table
+.Lunchecked_table:
+        .long   .Lunchecked - .Lunchecked_table
+.Lmoved_table:
+        .long   .Lmoved - .Lmoved_table, .Lmoved - .Lmoved_table
+.Lpast_table:
+        .long   .Lpast_end - .Lpast_table
+.Lcompared_table:
+        .long   .Lcompared0 - .Lcompared_table
 .Litself_table:
         .long   .Litself - .Litself_table
 .Llate_table:
