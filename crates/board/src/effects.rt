@@ -97,8 +97,15 @@ pub fn effect(b: Board, c: Command) -> Left
 {
     let mut i = b.i;
     let mut a = b.a;
-    whole(i);
-    whole(a);
-    let live = change(b.live, &mut i, &mut a, c);
+    let live = effect_of(b.live, &mut i, &mut a, c);
     Left { live, i, a }
+}
+
+// The same on tables that are lent.
+pub fn effect_of(live: u64, i: &mut [u64; 64], a: &mut [u64; 64], c: Command) -> u64
+    ensures { λ r. ⌜ tables r (now (i .exit)) (now (a .exit)) ≡ after (tables live (now (i .entry)) (now (a .entry))) c ⌝ }
+{
+    whole(*i);
+    whole(*a);
+    change(live, i, a, c)
 }

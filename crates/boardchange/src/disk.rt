@@ -5,6 +5,8 @@ use crate::paths::folder;
 use crate::system::keep_mode;
 use crate::system::see;
 use board::Board;
+use boardfile::lent::read_into;
+use boardfile::lent::write_of;
 
 // How much was read: n bytes, and whether no read failed.
 pub(crate) struct Amount {
@@ -31,11 +33,10 @@ pub(crate) fn read_whole(fd: i32, out: &mut [u8]) -> Amount
     Amount { n, fine: true }
 }
 
-// A board that was read: the reader's number, and what kept the file from being read at all.
+// How a board was read: the reader's number, and what kept the file from being read at all.
 pub(crate) struct Loaded {
     pub(crate) trouble: u8,
     pub(crate) number: u8,
-    pub(crate) board: Board,
 }
 
 // The troubles: what errno says; no regular file; several names, which would be several locks.
@@ -46,34 +47,43 @@ pub(crate) const NO_FILE: u8 = 2;
 pub(crate) const NAMES: u8 = 3;
 
 fn not_loaded(trouble: u8) -> Loaded {
-    Loaded {
-        trouble,
-        number: 0,
-        board: Board::founding(),
-    }
+    Loaded { trouble, number: 0 }
 }
 
 // Reads the board in a file that is open. One byte more than the longest file has is read, so that a longer one is refused and not cut.
-fn load_from(fd: i32) -> Loaded {
+fn load_from(
+    fd: i32,
+    live: &mut u64,
+    i: &mut [u64; 64],
+    a: &mut [u64; 64],
+    derives: &mut [u64; 64],
+    derivers: &mut [u64; 64],
+    manager: &mut [u8; 64],
+    rights: &mut [u8; 64],
+) -> Loaded {
     let mut space = [0u8; Board::FILE + 1];
     let got = read_whole(fd, &mut space);
     if !got.fine {
         return not_loaded(SYSTEM);
     }
     let n = got.n;
-    let reading = boardfile::read(&space[0..n]);
-    let number = reading.number;
-    let board = reading.board;
-    Loaded {
-        trouble: 0,
-        number,
-        board,
-    }
+    let number = read_into(&space[0..n], live, i, a, derives, derivers, manager, rights);
+    Loaded { trouble: 0, number }
 }
 
-// Reads the board in the file; who may use that file may use the one that is open as `next`. Whoever may not write to the file may not
-// put another in its place, so it is opened for that too.
-pub(crate) fn load(name: &[u8], next: i32) -> Loaded {
+// Reads the board in the file into these parts; who may use that file may use the one that is open as `next`. Whoever may not write to
+// the file may not put another in its place, so it is opened for that too.
+pub(crate) fn load(
+    name: &[u8],
+    next: i32,
+    live: &mut u64,
+    i: &mut [u64; 64],
+    a: &mut [u64; 64],
+    derives: &mut [u64; 64],
+    derivers: &mut [u64; 64],
+    manager: &mut [u8; 64],
+    rights: &mut [u8; 64],
+) -> Loaded {
     let fd = os::open_update(name);
     if fd < 0 {
         return not_loaded(SYSTEM);
@@ -88,15 +98,34 @@ pub(crate) fn load(name: &[u8], next: i32) -> Loaded {
         return not_loaded(NAMES);
     }
     keep_mode(of, next);
-    let loaded = load_from(fd);
+    let loaded = load_from(fd, live, i, a, derives, derivers, manager, rights);
     libc::close(fd);
     loaded
 }
 
 // Puts the board's file into an open file, down to the disk.
-pub(crate) fn store(fd: i32, b: Board) -> bool {
+pub(crate) fn store<'t>(
+    fd: i32,
+    live: u64,
+    i: &'t [u64; 64],
+    a: &'t [u64; 64],
+    derives: &'t [u64; 64],
+    derivers: &'t [u64; 64],
+    manager: &'t [u8; 64],
+    rights: &'t [u8; 64],
+) -> bool {
     let mut space = [0u8; Board::FILE];
-    let written = boardfile::write(b, &mut space, 0);
+    let written = write_of(
+        live,
+        i,
+        a,
+        derives,
+        derivers,
+        manager,
+        rights,
+        &mut space,
+        0,
+    );
     let n = written.len;
     if written.number != 0 {
         return false;

@@ -1,48 +1,50 @@
-// The commands of a text, given one by one, each to the board that the one before it left.
+// The commands of a text, given one by one, each to the board that the one before it left. That board is lent part by part: by value
+// it would be copied at every call. Each function answers whether a command was done.
 ghost use mathlib.Core.Path.{_≡_};
 ghost use mathlib.Core.Bool.{_||_};
+ghost use Rattle.board.specs.Boards.{boardOf};
 ghost use Rattle.wording.specs.Meanings.{meaningOf};
 ghost use Rattle.wording.specs.Texts.{pieces};
 ghost use Rattle.boardchange.specs.Texts.{meantBy, passed?, lineCommands, commandsOf, textCommands, Gave};
 use crate::reasons::say_answer;
 use crate::reasons::say_wrong;
-use board::Board;
-use board::commands::step;
+use board::commands::settle;
 use wording::Meaning;
 use wording::meant;
 use wording::pieces::NEWLINE;
 use wording::pieces::piece_end;
 use wording::pieces::word;
 
-// The last board, and whether a command was done.
-pub(crate) struct Ended {
-    pub(crate) board: Board,
-    pub(crate) done: bool,
-}
-
-// One line. Where `aloud` its answer is said, with the line's number before it unless that is 0.
-fn turn(board: Board, line: &[u8], number: u64, aloud: bool) -> Ended
-    ensures { λ r. ⌜ Gave board (meantBy (meaningOf (now (line .entry)))) (r .board) (r .done) ⌝ }
+// One line. Where `aloud` its answer is said, with the line's number before it unless that is 0. A refusal is told off the board as it
+// is then, since it left that alone.
+fn turn(
+    live: &mut u64,
+    i: &mut [u64; 64],
+    a: &mut [u64; 64],
+    derives: &mut [u64; 64],
+    derivers: &mut [u64; 64],
+    manager: &mut [u8; 64],
+    rights: &mut [u8; 64],
+    line: &[u8],
+    number: u64,
+    aloud: bool,
+) -> bool
+    ensures { λ r. ⌜ Gave (boardOf (now (live .entry)) (now (i .entry)) (now (a .entry)) (now (derives .entry)) (now (derivers .entry)) (now (manager .entry)) (now (rights .entry))) (meantBy (meaningOf (now (line .entry)))) (boardOf (now (live .exit)) (now (i .exit)) (now (a .exit)) (now (derives .exit)) (now (derivers .exit)) (now (manager .exit)) (now (rights .exit))) r ⌝ }
 {
     let m = meant(line);
     match m {
         Meaning::Means(c) => {
-            let o = step(board, c);
-            let answer = o.answer;
-            let next = o.board;
+            let answer = settle(live, i, a, derives, derivers, manager, rights, c);
             if aloud {
-                say_answer(board, c, answer, number);
+                say_answer(*live, i, a, derives, rights, c, answer, number);
             }
-            Ended {
-                board: next,
-                done: answer.number == 0,
-            }
+            answer.number == 0
         }
         Meaning::Wrong(k, wanted) => {
             if aloud {
                 say_wrong(line, k, wanted, number);
             }
-            Ended { board, done: false }
+            false
         }
     }
 }
@@ -59,13 +61,35 @@ fn passed_over(line: &[u8]) -> bool
 }
 
 // One line of many.
-fn line_turn(board: Board, line: &[u8], number: u64, aloud: bool) -> Ended
-    ensures { λ r. ⌜ Gave board (lineCommands (now (line .entry))) (r .board) (r .done) ⌝ }
+fn line_turn(
+    live: &mut u64,
+    i: &mut [u64; 64],
+    a: &mut [u64; 64],
+    derives: &mut [u64; 64],
+    derivers: &mut [u64; 64],
+    manager: &mut [u8; 64],
+    rights: &mut [u8; 64],
+    line: &[u8],
+    number: u64,
+    aloud: bool,
+) -> bool
+    ensures { λ r. ⌜ Gave (boardOf (now (live .entry)) (now (i .entry)) (now (a .entry)) (now (derives .entry)) (now (derivers .entry)) (now (manager .entry)) (now (rights .entry))) (lineCommands (now (line .entry))) (boardOf (now (live .exit)) (now (i .exit)) (now (a .exit)) (now (derives .exit)) (now (derivers .exit)) (now (manager .exit)) (now (rights .exit))) r ⌝ }
 {
     if passed_over(line) {
-        return Ended { board, done: false };
+        return false;
     }
-    turn(board, line, number, aloud)
+    turn(
+        live,
+        i,
+        a,
+        derives,
+        derivers,
+        manager,
+        rights,
+        line,
+        number,
+        aloud,
+    )
 }
 
 fn either(a: bool, b: bool) -> bool
@@ -78,31 +102,72 @@ fn either(a: bool, b: bool) -> bool
 }
 
 // Each line of a text.
-fn all_given(board: Board, text: &[u8], aloud: bool) -> Ended
-    ensures { λ r. ⌜ Gave board (commandsOf (pieces 10 (now (text .entry)))) (r .board) (r .done) ⌝ }
+fn all_given(
+    live: &mut u64,
+    i: &mut [u64; 64],
+    a: &mut [u64; 64],
+    derives: &mut [u64; 64],
+    derivers: &mut [u64; 64],
+    manager: &mut [u8; 64],
+    rights: &mut [u8; 64],
+    text: &[u8],
+    aloud: bool,
+) -> bool
+    ensures { λ r. ⌜ Gave (boardOf (now (live .entry)) (now (i .entry)) (now (a .entry)) (now (derives .entry)) (now (derivers .entry)) (now (manager .entry)) (now (rights .entry))) (commandsOf (pieces 10 (now (text .entry)))) (boardOf (now (live .exit)) (now (i .exit)) (now (a .exit)) (now (derives .exit)) (now (derivers .exit)) (now (manager .exit)) (now (rights .exit))) r ⌝ }
 {
     let n = text.len();
-    let mut last = board;
     let mut done = false;
     let mut number: u64 = 1;
     let mut from: usize = 0;
     while from <= n {
         let end = piece_end(text, from, NEWLINE);
-        let g = line_turn(last, &text[from..end], number, aloud);
-        last = g.board;
-        done = either(done, g.done);
+        let line_done = line_turn(
+            live,
+            i,
+            a,
+            derives,
+            derivers,
+            manager,
+            rights,
+            &text[from..end],
+            number,
+            aloud,
+        );
+        done = either(done, line_done);
         number += 1;
         from = end + 1;
     }
-    Ended { board: last, done }
+    done
 }
 
 // The text is one command, or `many` lines.
-pub(crate) fn given(board: Board, text: &[u8], many: bool, aloud: bool) -> Ended
-    ensures { λ r. ⌜ Gave board (textCommands many (now (text .entry))) (r .board) (r .done) ⌝ }
+pub(crate) fn given(
+    live: &mut u64,
+    i: &mut [u64; 64],
+    a: &mut [u64; 64],
+    derives: &mut [u64; 64],
+    derivers: &mut [u64; 64],
+    manager: &mut [u8; 64],
+    rights: &mut [u8; 64],
+    text: &[u8],
+    many: bool,
+    aloud: bool,
+) -> bool
+    ensures { λ r. ⌜ Gave (boardOf (now (live .entry)) (now (i .entry)) (now (a .entry)) (now (derives .entry)) (now (derivers .entry)) (now (manager .entry)) (now (rights .entry))) (textCommands many (now (text .entry))) (boardOf (now (live .exit)) (now (i .exit)) (now (a .exit)) (now (derives .exit)) (now (derivers .exit)) (now (manager .exit)) (now (rights .exit))) r ⌝ }
 {
     if many {
-        return all_given(board, text, aloud);
+        return all_given(live, i, a, derives, derivers, manager, rights, text, aloud);
     }
-    turn(board, text, 0, aloud)
+    turn(
+        live,
+        i,
+        a,
+        derives,
+        derivers,
+        manager,
+        rights,
+        text,
+        0,
+        aloud,
+    )
 }

@@ -20,6 +20,7 @@ mod reasons;
 mod system;
 
 use board::Board;
+use disk::Loaded;
 use disk::NAMES;
 use disk::NO_FILE;
 use disk::load;
@@ -67,14 +68,25 @@ fn renamed(name: &[u8], lock: &[u8], fd: i32, folder: i32) -> bool {
 
 // The new board takes the old one's place: it goes into the lock, down to the disk, and the lock takes the file's name. Answers whether it
 // did; where not, the lock is gone and the file as it was. The lock goes before anything is said, here and everywhere.
-fn replace(name: &[u8], lock: &[u8], fd: i32, b: Board) -> bool {
+fn replace<'t>(
+    name: &[u8],
+    lock: &[u8],
+    fd: i32,
+    live: u64,
+    i: &'t [u64; 64],
+    a: &'t [u64; 64],
+    down: &'t [u64; 64],
+    up: &'t [u64; 64],
+    manager: &'t [u8; 64],
+    rights: &'t [u8; 64],
+) -> bool {
     let folder = open_folder(name);
     if folder < 0 {
         give_up(fd, lock);
         os::fail(name);
         return false;
     }
-    if !store(fd, b) {
+    if !store(fd, live, i, a, down, up, manager, rights) {
         give_up(fd, lock);
         os::fail(lock);
         return false;
@@ -127,34 +139,164 @@ in the board file some role has no administrator",
     say(&mut out, at);
 }
 
+// Gives the commands to the board of these parts and says nothing; where one was done, that board becomes the file. Answers whether the
+// answers may be said.
+fn change_file(
+    name: &[u8],
+    lock: &[u8],
+    fd: i32,
+    live: &mut u64,
+    i: &mut [u64; 64],
+    a: &mut [u64; 64],
+    down: &mut [u64; 64],
+    up: &mut [u64; 64],
+    manager: &mut [u8; 64],
+    rights: &mut [u8; 64],
+    text: &[u8],
+    many: bool,
+) -> bool {
+    if given(live, i, a, down, up, manager, rights, text, many, false) {
+        return replace(name, lock, fd, *live, i, a, down, up, manager, rights);
+    }
+    give_up(fd, lock);
+    true
+}
+
+// The same with a copy of the board, which stays as it was read.
+fn change_by_copy<'t>(
+    name: &[u8],
+    lock: &[u8],
+    fd: i32,
+    live: u64,
+    i: &'t [u64; 64],
+    a: &'t [u64; 64],
+    down: &'t [u64; 64],
+    up: &'t [u64; 64],
+    manager: &'t [u8; 64],
+    rights: &'t [u8; 64],
+    text: &[u8],
+    many: bool,
+) -> bool {
+    let mut new_live = live;
+    let mut new_i = *i;
+    let mut new_a = *a;
+    let mut new_down = *down;
+    let mut new_up = *up;
+    let mut new_manager = *manager;
+    let mut new_rights = *rights;
+    change_file(
+        name,
+        lock,
+        fd,
+        &mut new_live,
+        &mut new_i,
+        &mut new_a,
+        &mut new_down,
+        &mut new_up,
+        &mut new_manager,
+        &mut new_rights,
+        text,
+        many,
+    )
+}
+
+// Whether a board was read; where not, the lock goes and it is said why.
+fn is_read(name: &[u8], lock: &[u8], fd: i32, was: Loaded) -> bool {
+    if was.trouble != 0 {
+        give_up(fd, lock);
+        say_trouble(name, was.trouble);
+        return false;
+    }
+    if was.number != 0 {
+        give_up(fd, lock);
+        say_file_refused(was.number);
+        return false;
+    }
+    true
+}
+
+// Reads the board into these parts, and decides the commands on it.
+fn change_read(
+    name: &[u8],
+    lock: &[u8],
+    fd: i32,
+    live: &mut u64,
+    i: &mut [u64; 64],
+    a: &mut [u64; 64],
+    down: &mut [u64; 64],
+    up: &mut [u64; 64],
+    manager: &mut [u8; 64],
+    rights: &mut [u8; 64],
+    text: &[u8],
+    many: bool,
+) {
+    let was = load(name, fd, live, i, a, down, up, manager, rights);
+    if !is_read(name, lock, fd, was) {
+        return;
+    }
+    if change_by_copy(
+        name,
+        lock,
+        fd,
+        *live,
+        i,
+        a,
+        down,
+        up,
+        manager,
+        rights,
+        text,
+        many,
+    ) {
+        // the same again, aloud: the answers are those of the same commands on the same board
+        given(live, i, a, down, up, manager, rights, text, many, true);
+    }
+}
+
 // Decides the commands of a text on the board in the file, and leaves the new board there.
 fn change(name: &[u8], lock: &[u8], text: &[u8], many: bool) {
     let fd = take(lock);
     if fd < 0 {
         return;
     }
-    let was = load(name, fd);
-    if was.trouble != 0 {
-        give_up(fd, lock);
-        say_trouble(name, was.trouble);
-        return;
-    }
-    if was.number != 0 {
-        give_up(fd, lock);
-        say_file_refused(was.number);
-        return;
-    }
-    let before = was.board;
-    let g = given(before, text, many, false);
-    if !g.done {
-        give_up(fd, lock);
-        given(before, text, many, true);
-        return;
-    }
-    if replace(name, lock, fd, g.board) {
-        // the same again, aloud: the answers are those of the same commands on the same board
-        given(before, text, many, true);
-    }
+    let mut live: u64 = 0;
+    let mut i = [0u64; 64];
+    let mut a = [0u64; 64];
+    let mut down = [0u64; 64];
+    let mut up = [0u64; 64];
+    let mut manager = [0u8; 64];
+    let mut rights = [0u8; 64];
+    change_read(
+        name,
+        lock,
+        fd,
+        &mut live,
+        &mut i,
+        &mut a,
+        &mut down,
+        &mut up,
+        &mut manager,
+        &mut rights,
+        text,
+        many,
+    );
+}
+
+// The founding board becomes the file.
+fn founded(name: &[u8], lock: &[u8], fd: i32) -> bool {
+    let b = Board::founding();
+    replace(
+        name,
+        lock,
+        fd,
+        b.live,
+        &b.i,
+        &b.a,
+        &b.derives,
+        &b.derivers,
+        &b.manager,
+        &b.rights,
+    )
 }
 
 // Makes the file, with the founding board, where there is none of that name.
@@ -178,7 +320,7 @@ fn found(name: &[u8], lock: &[u8]) {
         os::fail(name);
         return;
     }
-    if replace(name, lock, fd, Board::founding()) {
+    if founded(name, lock, fd) {
         let mut out = [0u8; 16];
         let at = put(&mut out, 0, b"done");
         say(&mut out, at);

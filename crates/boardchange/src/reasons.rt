@@ -9,7 +9,7 @@ use crate::lines::say;
 use board::Board;
 use board::Command;
 use board::commands::Answer;
-use board::effects::effect;
+use board::effects::effect_of;
 use hierarchy::scopes::bars;
 use hierarchy::working::work_out;
 use sets::Pick;
@@ -155,29 +155,35 @@ fn put_kind(out: &mut [u8], at: usize, kind: u32) -> usize {
 }
 
 // The kind of the edge that the command names; 0 where there is none.
-fn standing(b: Board, c: Command) -> u32 {
+fn standing<'t>(i: &'t [u64; 64], a: &'t [u64; 64], c: Command) -> u32 {
     let senior = c.role as usize;
     let junior = c.junior as usize;
     if 63 < senior {
         return 0;
     }
-    let i = has(b.i[senior], junior);
-    let a = has(b.a[senior], junior);
-    if i && a {
+    let by_i = has(i[senior], junior);
+    let by_a = has(a[senior], junior);
+    if by_i && by_a {
         return 3;
     }
-    if i {
+    if by_i {
         return 1;
     }
-    if a {
+    if by_a {
         return 2;
     }
     0
 }
 
 // 5: what is to go or to change is missing.
-fn put_lacking(out: &mut [u8], at: usize, b: Board, c: Command) -> usize {
-    let kind = standing(b, c);
+fn put_lacking<'t>(
+    out: &mut [u8],
+    at: usize,
+    i: &'t [u64; 64],
+    a: &'t [u64; 64],
+    c: Command,
+) -> usize {
+    let kind = standing(i, a, c);
     if kind == 0 {
         return put_edge(out, at, b"there is no edge from role @ to role @", c);
     }
@@ -211,12 +217,11 @@ fn held_by_any(rights: &[u8; 64], roles: u64) -> u64 {
 }
 
 // The rights that a role may use: its own, and those of the roles that it derives.
-fn usable(b: Board, actor: usize) -> u64 {
+fn usable(derives: &[u64; 64], rights: &[u8; 64], actor: usize) -> u64 {
     if 63 < actor {
         return 0;
     }
-    let derived = b.derives[actor];
-    held_by_any(&b.rights, derived)
+    held_by_any(rights, derives[actor])
 }
 
 // The rights that a command asks for.
@@ -231,14 +236,20 @@ fn asked(c: Command) -> u64 {
 }
 
 // 13: the first right that the command asks for and that the actor may not use.
-fn put_no_right(out: &mut [u8], at: usize, b: Board, c: Command) -> usize {
+fn put_no_right(
+    out: &mut [u8],
+    at: usize,
+    derives: &[u64; 64],
+    rights: &[u8; 64],
+    c: Command,
+) -> usize {
     let at = put_form(
         out,
         at,
         b"neither role @ nor a role that it derives holds the right to ",
         numbers(c.actor as u64, 0, 0, 0),
     );
-    let right = first(minus(asked(c), usable(b, c.actor as usize)));
+    let right = first(minus(asked(c), usable(derives, rights, c.actor as usize)));
     put(
         out,
         at,
@@ -294,39 +305,38 @@ fn unmanaged(live: u64, manager: &[u8; 64]) -> u64 {
     }
 }
 
-// What the board that a command would leave keeps: who would derive whom, and each role's line manager.
-struct Afterwards {
+// What the board that a command would leave keeps: who would derive whom, and each role's line manager. Answers the roles that would be
+// live.
+fn left_by<'t>(
     live: u64,
-    derives: [u64; 64],
-    derivers: [u64; 64],
-    manager: [u8; 64],
-}
-
-fn left_by(b: Board, c: Command) -> Afterwards {
-    let e = effect(b, c);
-    let mut derives = [0u64; 64];
-    let mut derivers = [0u64; 64];
-    let mut manager = [0u8; 64];
-    work_out(
-        e.live,
-        &e.i,
-        &e.a,
-        &mut derives,
-        &mut derivers,
-        &mut manager,
-    );
-    Afterwards {
-        live: e.live,
-        derives,
-        derivers,
-        manager,
-    }
+    i: &'t [u64; 64],
+    a: &'t [u64; 64],
+    c: Command,
+    derives: &mut [u64; 64],
+    derivers: &mut [u64; 64],
+    manager: &mut [u8; 64],
+) -> u64 {
+    let mut new_i = *i;
+    let mut new_a = *a;
+    let new_live = effect_of(live, &mut new_i, &mut new_a, c);
+    work_out(new_live, &new_i, &new_a, derives, derivers, manager);
+    new_live
 }
 
 // 8: why the new role would not be in the actor's strict scope: nobody there leads down to it, or another role does who is unrelated.
-fn put_outside(out: &mut [u8], at: usize, b: Board, c: Command) -> usize {
-    let l = left_by(b, c);
-    let bar = bars(&l.derives, &l.derivers, c.actor as usize, c.role as usize);
+fn put_outside<'t>(
+    out: &mut [u8],
+    at: usize,
+    live: u64,
+    i: &'t [u64; 64],
+    a: &'t [u64; 64],
+    c: Command,
+) -> usize {
+    let mut derives = [0u64; 64];
+    let mut derivers = [0u64; 64];
+    let mut manager = [0u8; 64];
+    left_by(live, i, a, c, &mut derives, &mut derivers, &mut manager);
+    let bar = bars(&derives, &derivers, c.actor as usize, c.role as usize);
     let actor = c.actor as u64;
     let role = c.role as u64;
     let cause = bar.cause;
@@ -342,13 +352,23 @@ the new role @ would not be in the strict scope of role @, since role @ would de
 }
 
 // 9: who would have no administrator.
-fn put_orphan(out: &mut [u8], at: usize, b: Board, c: Command) -> usize {
-    let l = left_by(b, c);
+fn put_orphan<'t>(
+    out: &mut [u8],
+    at: usize,
+    live: u64,
+    i: &'t [u64; 64],
+    a: &'t [u64; 64],
+    c: Command,
+) -> usize {
+    let mut derives = [0u64; 64];
+    let mut derivers = [0u64; 64];
+    let mut manager = [0u8; 64];
+    let new_live = left_by(live, i, a, c, &mut derives, &mut derivers, &mut manager);
     put_form(
         out,
         at,
         b"role @ would be left without an administrator",
-        numbers(unmanaged(l.live, &l.manager), 0, 0, 0),
+        numbers(unmanaged(new_live, &manager), 0, 0, 0),
     )
 }
 
@@ -363,43 +383,62 @@ fn put_loop(out: &mut [u8], at: usize, c: Command) -> usize {
 }
 
 // Why a command was refused; a 1 or a 2 can't arise, since a file's board is sound and a line means no command that is malformed.
-fn put_reason(out: &mut [u8], at: usize, b: Board, c: Command, a: Answer) -> usize {
-    let number = a.number;
+fn put_reason<'t>(
+    out: &mut [u8],
+    at: usize,
+    live: u64,
+    i: &'t [u64; 64],
+    a: &'t [u64; 64],
+    derives: &'t [u64; 64],
+    rights: &'t [u8; 64],
+    c: Command,
+    answer: Answer,
+) -> usize {
+    let number = answer.number;
     if number == 3 {
-        return put_absent(out, at, b.live, c);
+        return put_absent(out, at, live, c);
     }
     if number == 4 {
         return put_standing(out, at, c);
     }
     if number == 5 {
-        return put_lacking(out, at, b, c);
+        return put_lacking(out, at, i, a, c);
     }
     if number == 13 {
-        return put_no_right(out, at, b, c);
+        return put_no_right(out, at, derives, rights, c);
     }
     if number == 6 {
-        return put_barred(out, at, c, a);
+        return put_barred(out, at, c, answer);
     }
     if number == 7 {
         return put_loop(out, at, c);
     }
     if number == 8 {
-        return put_outside(out, at, b, c);
+        return put_outside(out, at, live, i, a, c);
     }
-    put_orphan(out, at, b, c)
+    put_orphan(out, at, live, i, a, c)
 }
 
-// The answer to a command on the board before it.
-pub(crate) fn say_answer(b: Board, c: Command, a: Answer, number: u64) {
+// The answer to a command, on the board before it; that it was done needs no board.
+pub(crate) fn say_answer<'t>(
+    live: u64,
+    i: &'t [u64; 64],
+    a: &'t [u64; 64],
+    derives: &'t [u64; 64],
+    rights: &'t [u8; 64],
+    c: Command,
+    answer: Answer,
+    number: u64,
+) {
     let mut out = [0u8; LINE];
     let at = begin(&mut out, number);
-    let refusal = a.number;
+    let refusal = answer.number;
     if refusal == 0 {
         let at = put(&mut out, at, b"done");
         say(&mut out, at);
         return;
     }
     let at = put_refused(&mut out, at, refusal as u64);
-    let at = put_reason(&mut out, at, b, c, a);
+    let at = put_reason(&mut out, at, live, i, a, derives, rights, c, answer);
     say(&mut out, at);
 }

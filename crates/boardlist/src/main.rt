@@ -5,6 +5,7 @@ use board::Board;
 use board::kept::line_manager;
 use board::kept::steps;
 use board::questions::Manager;
+use boardfile::lent::read_into;
 use libc::STDIN_FILENO;
 use libc::STDOUT_FILENO;
 use sets::Pick;
@@ -46,22 +47,58 @@ fn list_all(live: u64, manager: &[u8; 64]) {
     }
 }
 
-// One byte more than the longest file is read, so that a longer input is refused and not cut.
-fn main() {
+// Reads the board into these parts, and answers the reader's number. One byte more than the longest file is read, so that a longer input
+// is refused and not cut.
+fn read_input(
+    live: &mut u64,
+    i: &mut [u64; 64],
+    a: &mut [u64; 64],
+    derives: &mut [u64; 64],
+    derivers: &mut [u64; 64],
+    manager: &mut [u8; 64],
+    rights: &mut [u8; 64],
+) -> u8 {
     let mut space = [0u8; Board::FILE + 1];
     let n = io::read_full(STDIN_FILENO, &mut space);
-    let reading = boardfile::read(&space[..n]);
-    if reading.number != 0 {
+    read_into(&space[..n], live, i, a, derives, derivers, manager, rights)
+}
+
+fn main() {
+    let mut live: u64 = 0;
+    let mut i = [0u64; 64];
+    let mut a = [0u64; 64];
+    let mut derives = [0u64; 64];
+    let mut derivers = [0u64; 64];
+    let mut manager = [0u8; 64];
+    let mut rights = [0u8; 64];
+    let refusal = read_input(
+        &mut live,
+        &mut i,
+        &mut a,
+        &mut derives,
+        &mut derivers,
+        &mut manager,
+        &mut rights,
+    );
+    if refusal != 0 {
         say(b"refused ");
-        number(reading.number as u64);
+        number(refusal as u64);
         say(b"\n");
         return;
     }
-    let board = reading.board;
     say(b"roles ");
-    number(size(board.live) as u64);
+    number(size(live) as u64);
     say(b" edges ");
+    let board = Board {
+        live,
+        i,
+        a,
+        derives,
+        derivers,
+        manager,
+        rights,
+    };
     number(boardfile::edge_count(board) as u64);
     say(b"\n");
-    list_all(board.live, &board.manager);
+    list_all(live, &manager);
 }

@@ -1,5 +1,6 @@
 use Prim.Native.Nat.{_≤_, _-_, _+_}
 use lib.ListN.{length}
+use Rattle.board.specs.Boards.{boardOf}
 use Rattle.wording.proofs.Cutting.{Turn, turn}
 use Rattle.boardchange.proofs.Giving.{SoFar, start, next, finish}
 use borrow.Author.Needs.{needs}
@@ -8,10 +9,11 @@ use Rattle.boardchange.proofs.given.all_given.Statement.{statement}
 use Rattle.boardchange.proofs.given.all_given.Tie as tie
 
 abbrev Inv-loop : tie.InvT-loop
-Inv-loop text aloud n last₀ done₀ number₀ from₀ last done number from = (from ≤ length text + 1) × (number ≤ from + 1) × SoFar last₀ text from last done
+Inv-loop live₀ i₀ a₀ derives₀ derivers₀ manager₀ rights₀ text aloud n done₀ number₀ from₀ live i a derives derivers manager rights done number from =
+    (from ≤ length text + 1) × (number ≤ from + 1) × SoFar (boardOf live₀ i₀ a₀ derives₀ derivers₀ manager₀ rights₀) text from (boardOf live i a derives derivers manager rights) done
 
 abbrev μ-loop : tie.MeasureT-loop
-μ-loop text aloud n last₀ done₀ number₀ from₀ last done number from = length text + 1 - from
+μ-loop live₀ i₀ a₀ derives₀ derivers₀ manager₀ rights₀ text aloud n done₀ number₀ from₀ live i a derives derivers manager rights done number from = length text + 1 - from
 
 loop-holds : tie.Need-loop-holds Inv-loop μ-loop
 loop-holds c = (omega arith, omega arith, start _ _)
@@ -29,7 +31,7 @@ part-line-turn-start : tie.Need-part-line-turn-start Inv-loop μ-loop
 part-line-turn-start c = search needs
 
 part-line-turn-end : tie.Need-part-line-turn-end Inv-loop μ-loop
-part-line-turn-end c = cut c .high
+part-line-turn-end c = cut (c .before .before .before .before .before .before .before) .high
 
 line-turn-requires : tie.Need-line-turn-requires Inv-loop μ-loop
 line-turn-requires c κs = search needs
@@ -41,16 +43,17 @@ add-number : tie.Need-add-number Inv-loop μ-loop
 add-number c = search needs
 
 add-from : tie.Need-add-from Inv-loop μ-loop
-add-from c = let t = cut (c .before .before .before .before) in omega arith
+add-from c = let t = cut (c .before .before .before .before .before .before .before .before .before .before) in omega arith
 
 loop-less : tie.Need-loop-less Inv-loop μ-loop
 loop-less c = search needs
 
 loop-again : tie.Need-loop-again Inv-loop μ-loop
 loop-again c =
-    let l = c .before .before .before .before .before .before .loop .inv in
-    let t = cut (c .before .before .before .before) in
-    (omega arith, omega arith, rw (c .either .ensures) (next (l .2) t (c .before .before .line-turn .ensures)))
+    let p = c .before .before .before .before .before .before .before .before .before .before in
+    let l = p .before .before .loop .inv in
+    let t = cut p in
+    (omega arith, omega arith, rw (c .either .ensures) (next (l .2) t (c .before .line-turn .ensures)))
 
 returns : tie.Need-returns Inv-loop μ-loop
 returns c = finish (c .before .loop .inv .2) (c .loop-test .left)

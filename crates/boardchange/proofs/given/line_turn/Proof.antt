@@ -14,7 +14,7 @@ turn-requires : tie.Need-turn-requires
 turn-requires c κs = search needs
 
 returns-2 : tie.Need-returns-2
-returns-2 c = by-line _ (sym (c .before .if1 .left) ∙ c .before .before .passed-over .ensures) (c .turn .ensures)
+returns-2 c = let s = c .before .before .before .before .before .before .before .before in by-line _ (sym (s .if1 .left) ∙ s .before .passed-over .ensures) (c .turn .ensures)
 
 pub line-turn-spec : {M : Type 1} → statement M
 line-turn-spec = tie.close (tie.spec passed-over-requires returns turn-requires returns-2)

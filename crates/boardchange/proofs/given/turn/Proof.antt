@@ -10,8 +10,8 @@ meant-requires c κs = search needs
 enum-known-m : tie.Need-enum-known-m
 enum-known-m c = search needs
 
-step-requires : tie.Need-step-requires
-step-requires c κs = search needs
+settle-requires : tie.Need-settle-requires
+settle-requires c κs = search needs
 
 say-answer-requires : tie.Need-say-answer-requires
 say-answer-requires c κs = search needs
@@ -23,7 +23,10 @@ say-wrong-requires : tie.Need-say-wrong-requires
 say-wrong-requires c κs = search needs
 
 returns : tie.Need-returns
-returns c = by-meaning (sym (c .before .before .before .before .before .before .m .given .1) ∙ c .before .before .before .before .before .before .before .before .meant .ensures) (gave-one (c .before .before .before .before .step .ensures))
+returns c =
+    let s = c .before .before in
+    let m = s .before .before .before .before .before .before .before .before .before in
+    by-meaning (sym (m .m .given .1) ∙ m .before .before .meant .ensures) (gave-one (s .settle .ensures))
 
 returns-2 : tie.Need-returns-2
 returns-2 c = by-meaning (sym (c .before .before .before .m2 .given .1) ∙ c .before .before .before .before .before .meant .ensures) gave-none
@@ -37,7 +40,7 @@ turn-spec =
     (tie.spec
     meant-requires
     enum-known-m
-    step-requires
+    settle-requires
     say-answer-requires
     enum-known-m-2
     say-wrong-requires
