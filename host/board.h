@@ -1,8 +1,9 @@
 /* The role board for programs in C.
  *
  * Link libhost.a, which `rt staticlib host` makes for x86-64 Linux. Each call checks all it is handed and decides by
- * itself, so nothing has to be tested before. It keeps nothing between calls, takes no memory from the heap, and calls
- * from several threads are fine on different boards and buffers.
+ * itself, so nothing has to be tested before. It keeps nothing between calls, takes no memory from the heap and little
+ * stack (docs/PERFORMANCE.md has the most that each call takes), and calls from several threads are fine on different
+ * boards and buffers.
  *
  * Of a pointer it asks what C asks: that many bytes are there. Hand over no null pointer, not even with length 0. What a
  * call writes (`b`, `out`, `answers`) may overlap nothing else that is handed over, and nobody else writes what is handed

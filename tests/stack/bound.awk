@@ -194,7 +194,8 @@ function place(text, more,    symbol, offset) {
 }
 
 # ---- following a function. Where it stands: H, the height; LOOSE, whether the height was rounded up, so that it is at most H;
-# COPY, the heights that %rbp and %r11 hold as copies of the stack pointer, or ""
+# COPY, the heights that %rbp and %r11 hold as copies of the stack pointer, or ""; HELD, which registers hold which address of a
+# table, as " r9=ADDRESS rbx=ADDRESS "
 
 function refuse(f, why) {
     if (!(f in problem)) problem[f] = "in " name[f] ": " why
@@ -212,23 +213,53 @@ function reach(f, i) {
         loose[i] = LOOSE
         rbp[i] = COPY["rbp"]
         r11[i] = COPY["r11"]
+        held[i] = HELD
         todo[++waiting] = i
     } else if (height[i] != H || loose[i] != LOOSE) {
         refuse(f, "comes to '" said[i] "' at two heights, " height[i] " and " H)
-    } else if (rbp[i] != "" && rbp[i] != COPY["rbp"] || r11[i] != "" && r11[i] != COPY["r11"]) {
-        if (rbp[i] != COPY["rbp"]) rbp[i] = ""
-        if (r11[i] != COPY["r11"]) r11[i] = ""
-        todo[++waiting] = i
+    } else if (forget(i)) todo[++waiting] = i
+}
+
+# What only one of two ways knows isn't known where they meet. Returns whether that was something.
+function forget(i,    less, both) {
+    if (rbp[i] != "" && rbp[i] != COPY["rbp"]) {
+        rbp[i] = ""
+        less = 1
     }
+    if (r11[i] != "" && r11[i] != COPY["r11"]) {
+        r11[i] = ""
+        less = 1
+    }
+    both = common(held[i], HELD)
+    if (both != held[i]) less = 1
+    held[i] = both
+    return less
+}
+
+function common(those, others,    k, n, word, both) {
+    n = split(those, word, " ")
+    both = " "
+    for (k = 1; k <= n; k++)
+        if (index(others, " " word[k] " ")) both = both word[k] " "
+    return both
 }
 
 function follow(f,    k) {
     waiting = H = LOOSE = own[f] = calls[f] = tables = 0
     COPY["rbp"] = COPY["r11"] = ""
+    HELD = " "
     reach(f, first[f])
     while (waiting > 0 && !(f in problem)) step(f, todo[waiting--])
     for (k = 1; k <= tables && !(f in problem); k++) # a table found later may lead into the middle of one found before
         if (!find_table(f, table_jump[k])) refuse(f, "jumps by '" said[table_jump[k]] "', which isn't seen to be a table")
+    if (f in unsaid && !(f in problem)) see_all(f)
+}
+
+# Where a table's length isn't known, each instruction must be come to all the same, so that an entry more would lead to nothing new.
+function see_all(f,    i) {
+    for (i = first[f]; i <= instructions && of[i] == f; i++)
+        if (!(i in height) && !passed[i] && op[i] !~ /^(nop[wl]?|xchg|int3|ud2)$/)
+            return refuse(f, "jumps by a table of no known length, and doesn't come to '" said[i] "'")
 }
 
 function step(f, i) {
@@ -236,6 +267,7 @@ function step(f, i) {
     LOOSE = loose[i]
     COPY["rbp"] = rbp[i]
     COPY["r11"] = r11[i]
+    HELD = held[i]
     NEXT = i + 1
     if (op[i] == "ud2") return
     if (op[i] == "ret") return give_back(f, i, "returns")
@@ -268,6 +300,7 @@ function call(f, i) {
     resolve(i)
     enter(f, i, 8)
     COPY["r11"] = ""
+    let_go("rax rcx rdx rsi rdi r8 r9 r10 r11") # the others a called function puts back
 }
 
 # Another function begins, with so many bytes more on the stack.
@@ -296,6 +329,7 @@ function work(f, i,    o, m) {
     else if (may_write(i, "rsp")) set_stack(f, i, o)
     copy(i, o, "rbp")
     copy(i, o, "r11")
+    hold(i, o, m)
 }
 
 # Operands below the stack pointer, which is how a function that calls no other may use the stack without moving it.
@@ -342,6 +376,7 @@ function grow(f, i, bytes) {
             return refuse(f, "takes stack in a loop whose end isn't known")
         H = COPY["r11"]
         NEXT = i + 4
+        passed[i + 1] = passed[i + 2] = passed[i + 3] = 1
     } else H += bytes
     sink(f, H)
 }
@@ -364,13 +399,31 @@ function copy(i, o, wide,    d) {
 }
 
 # ---- jump tables: lea TABLE(%rip),%base ; movslq (%base,%index,4),%to ; add %base,%to ; jmp *%to, with others between that leave
-# these registers alone
+# these registers alone; the first may lie far before, outside of a loop
+
+function hold(i, o, m,    k) {
+    if (!is_plain(i)) let_go("rax rbx rcx rdx rsi rdi rbp r11") # an instruction may write these and not name them
+    for (k = 1; k <= m; k++)
+        if (o[k] in register && may_write(i, register[o[k]])) let_go(register[o[k]])
+    if (op[i] == "lea" && o[1] ~ /^(-?0x[0-9a-f]+)?\(%rip\)$/ && o[2] == "%" register[o[2]])
+        HELD = HELD register[o[2]] "=" (kind == "program" ? points_at[i] : relocation[i]) " "
+}
+
+function let_go(wides,    k, word) {
+    split(wides, word, " ")
+    for (k in word) sub(" " word[k] "=[^ ]* ", " ", HELD)
+}
+
+function held_address(all, wide) {
+    if (!match(all, " " wide "=[^ ]+ ")) return ""
+    return substr(all, RSTART + length(wide) + 2, RLENGTH - length(wide) - 3)
+}
 
 function jump_by_table(f, i,    k) {
     if (!find_table(f, i)) return refuse(f, "jumps by '" said[i] "', which isn't seen to be a table")
-    if (table_length < 0) return refuse(f, "jumps by a table of no known length")
     table_jump[++tables] = i
-    for (k = 0; k < table_length; k++) {
+    if (table_length < 0) unsaid[f] = 1
+    for (k = 0; table_length < 0 || k < table_length; k++) {
         target = 0
         if (kind == "program") read_entry(k)
         else if ((table_section, table_start + 4 * k) in entry) place(entry[table_section, table_start + 4 * k], -4 * k)
@@ -378,7 +431,7 @@ function jump_by_table(f, i,    k) {
         is_target[target] = 1
         reach(f, target)
     }
-    if (k < table_length) refuse(f, "jumps by a table whose entry " k " leads out of it")
+    if (k < table_length || k == 0) refuse(f, "jumps by a table whose entry " k " leads out of it")
 }
 
 # In a program an entry has four bytes, the lowest first: how far from the table's start.
@@ -390,8 +443,9 @@ function read_entry(k,    b, v) {
     if (("", table_start + v) in where) target = where["", table_start + v]
 }
 
-# Where the table stands, and how many entries it has; -1 where nothing says it.
-function find_table(f, i,    o, to, base, sum, load, set) {
+# Where the table stands, and how many entries it has; -1 where nothing says it, and it is read as far as it leads into the
+# function.
+function find_table(f, i,    o, to, base, sum, load, k) {
     if (!(substr(args[i], 2) in register)) return 0
     to = register[substr(args[i], 2)]
     sum = setter(f, i, to)
@@ -400,25 +454,25 @@ function find_table(f, i,    o, to, base, sum, load, set) {
     base = register[o[1]]
     if (base == "") return 0
     load = setter(f, sum, to)
-    set = setter(f, sum, base)
-    if (!load || !set || set > load || op[load] != "movslq" || op[set] != "lea") return 0
+    if (!load || op[load] != "movslq") return 0
+    for (k = load; k < sum; k++)
+        if (may_write(k, base)) return 0
     operands(load, o)
     if (o[1] !~ ("^\\(%" base ",%[a-z0-9]+,4\\)$")) return 0
     sub(/^\(%[a-z0-9]+,/, "", o[1])
     sub(/,4\)$/, "", o[1])
     table_length = length_of(f, load, register[o[1]])
-    return table_at(set)
+    return table_at(held_address(held[load], base))
 }
 
-function table_at(set,    o) {
-    operands(set, o)
-    if (o[1] !~ /^(-?0x[0-9a-f]+)?\(%rip\)$/) return 0
-    if (kind == "program") table_start = points_at[set]
-    else if (set in relocation) {
-        place(relocation[set], 4)
+function table_at(address) {
+    if (address == "") return 0
+    if (kind == "program") table_start = address + 0
+    else {
+        place(address, 4)
         table_section = place_section
         table_start = place_offset
-    } else return 0
+    }
     return 1
 }
 

@@ -115,55 +115,44 @@ short_table:
 .Lshort:
         ret
 
-# Nothing says how long the table is: there is no check, what is looked up isn't what was checked, or there is a way past the check or
-# past what it compares.
-#= unchecked_table refused in unchecked_table: jumps by a table of no known length
-unchecked_table:
-        lea     .Lunchecked_table(%rip), %rcx
+# Nothing says how long the table is, and an entry that leads out ends the reading before all is seen.
+#= cut_table refused in cut_table: jumps by a table of no known length, and doesn't come to 'push %rbx'
+cut_table:
+        lea     .Lcut_table(%rip), %rcx
         movslq  (%rcx,%rdi,4), %rax
         add     %rcx, %rax
         jmp     *%rax
-.Lunchecked:
+.Lcut0: ret
+.Lcut2: push    %rbx
+        pop     %rbx
         ret
 
-#= moved_table refused in moved_table: jumps by a table of no known length
-moved_table:
-        cmp     $0x0, %edi
-        ja      .Lmoved
-        inc     %edi
-        lea     .Lmoved_table(%rip), %rcx
+# A called function need not put that register back.
+#= lost_table refused in lost_table: jumps by 'jmp *%rax', which isn't seen to be a table
+lost_table:
+        lea     .Ltable(%rip), %rcx
+        call    nothing
         movslq  (%rcx,%rdi,4), %rax
         add     %rcx, %rax
         jmp     *%rax
-.Lmoved:
-        ret
 
-#= past_the_check refused in past_the_check: jumps by a table of no known length
-past_the_check:
+# Another way there has another table.
+#= either_table refused in either_table: jumps by 'jmp *%rax', which isn't seen to be a table
+either_table:
+        lea     .Llate_table(%rip), %rcx
         test    %rsi, %rsi
-        je      .Lpast_check
-        cmp     $0x0, %edi
-        ja      .Lpast_end
-.Lpast_check:
-        lea     .Lpast_table(%rip), %rcx
+        je      .Leither
+        lea     .Lshort_table(%rip), %rcx
+.Leither:
+        cmp     $0x0, %rdi
+        ja      .Leither0
         movslq  (%rcx,%rdi,4), %rax
         add     %rcx, %rax
         jmp     *%rax
-.Lpast_end:
+.Leither0:
         ret
 
-#= past_the_comparison refused in past_the_comparison: jumps by a table of no known length
-past_the_comparison:
-        test    %rsi, %rsi
-        je      .Lcompared
-        cmp     $0x0, %edi
-.Lcompared:
-        ja      .Lcompared0
-        lea     .Lcompared_table(%rip), %rcx
-        movslq  (%rcx,%rdi,4), %rax
-        add     %rcx, %rax
-        jmp     *%rax
-.Lcompared0:
+nothing:
         ret
 
 # As alloca and arrays of a length that is found out when it runs.
@@ -342,14 +331,8 @@ traps:  int3
         .balign 4
 .Lshort_table:
         .long   .Lshort - .Lshort_table
-.Lunchecked_table:
-        .long   .Lunchecked - .Lunchecked_table
-.Lmoved_table:
-        .long   .Lmoved - .Lmoved_table, .Lmoved - .Lmoved_table
-.Lpast_table:
-        .long   .Lpast_end - .Lpast_table
-.Lcompared_table:
-        .long   .Lcompared0 - .Lcompared_table
+.Lcut_table:
+        .long   .Lcut0 - .Lcut_table, nothing - .Lcut_table, .Lcut2 - .Lcut_table
 .Litself_table:
         .long   .Litself - .Litself_table
 .Llate_table:

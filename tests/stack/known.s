@@ -131,6 +131,99 @@ table:  push    %rbx
         pop     %rbx
         ret
 
+# What is looked up isn't what was checked, so the check says nothing of the table's length.
+#= moved_table 64 moved_table 8 > pushes 56
+moved_table:
+        cmp     $0x0, %edi
+        ja      .Lmoved0
+        inc     %edi
+        lea     .Lmoved_table(%rip), %rcx
+        movslq  (%rcx,%rdi,4), %rax
+        add     %rcx, %rax
+        jmp     *%rax
+.Lmoved0:
+        ret
+.Lmoved1:
+        call    pushes
+        ret
+
+# Nor does it where there is a way past the check, or past what it compares.
+#= past_the_check 64 past_the_check 8 > pushes 56
+past_the_check:
+        test    %rsi, %rsi
+        je      .Lpast
+        cmp     $0x0, %edi
+        ja      .Lpast0
+.Lpast: lea     .Lpast_table(%rip), %rcx
+        movslq  (%rcx,%rdi,4), %rax
+        add     %rcx, %rax
+        jmp     *%rax
+.Lpast0:
+        ret
+.Lpast1:
+        call    pushes
+        ret
+
+#= past_the_comparison 64 past_the_comparison 8 > pushes 56
+past_the_comparison:
+        test    %rsi, %rsi
+        je      .Lcompared
+        cmp     $0x0, %edi
+.Lcompared:
+        ja      .Lcompared0
+        lea     .Lcompared_table(%rip), %rcx
+        movslq  (%rcx,%rdi,4), %rax
+        add     %rcx, %rax
+        jmp     *%rax
+.Lcompared0:
+        ret
+.Lcompared1:
+        call    pushes
+        ret
+
+# No check before it: the table is read as far as it leads into the function.
+#= whole_table 24 whole_table 24
+whole_table:
+        lea     .Lwhole_table(%rip), %rsi
+        movslq  (%rsi,%rdi,4), %r8
+        add     %rsi, %r8
+        jmp     *%r8
+.Lwhole0:
+        ret
+.Lwhole1:
+        push    %rbx
+        pop     %rbx
+        ret
+.Lwhole2:
+        push    %rbx
+        push    %rbx
+        pop     %rbx
+        pop     %rbx
+        ret
+
+# The table's address is taken before the loop that jumps by it, and outlives a call.
+#= hoisted_table 80 hoisted_table 24 > pushes 56
+hoisted_table:
+        push    %rbx
+        push    %r12
+        lea     .Lhoisted_table(%rip), %rbx
+.Lhoisted_again:
+        test    %rsi, %rsi
+        je      .Lhoisted0
+        call    pushes
+        cmp     $0x1, %rax
+        ja      .Lhoisted0
+        movslq  (%rbx,%rax,4), %rcx
+        add     %rbx, %rcx
+        jmp     *%rcx
+.Lhoisted1:
+        dec     %rsi
+        jmp     .Lhoisted_again
+.Lhoisted0:
+        pop     %r12
+        pop     %rbx
+        ret
+
 #= frame 136 frame 80 > pushes 56
 frame:  push    %rbp
         mov     %rsp, %rbp
@@ -211,5 +304,16 @@ main:   sub     $0x10, %rsp
         .balign 4
 .Ltable:
         .long   .Lcase0 - .Ltable, .Lcase1 - .Ltable, .Lcase2 - .Ltable
+.Lhoisted_table:
+        .long   .Lhoisted0 - .Lhoisted_table, .Lhoisted1 - .Lhoisted_table
+.Lmoved_table:
+        .long   .Lmoved0 - .Lmoved_table, .Lmoved1 - .Lmoved_table
+.Lpast_table:
+        .long   .Lpast0 - .Lpast_table, .Lpast1 - .Lpast_table
+.Lcompared_table:
+        .long   .Lcompared0 - .Lcompared_table, .Lcompared1 - .Lcompared_table
+.Lwhole_table:
+        .long   .Lwhole0 - .Lwhole_table, .Lwhole1 - .Lwhole_table, .Lwhole2 - .Lwhole_table
+        .long   0x7fffffff
 
         .section .note.GNU-stack, "", @progbits
