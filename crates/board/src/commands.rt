@@ -1,6 +1,7 @@
 // The seven commands. `step` decides one: it tries the refusals of document 01 in their order, first on the board it is handed, then
 // on the tables the command would leave, and gives back its answer and the board, changed where the number is 0. `decide` is the same
-// for a caller that has just found the board sound: it takes what the board keeps as it stands there.
+// for a caller that has just found the board sound: it takes what the board keeps as it stands there; so does `try_on`, which changes a
+// board that its caller can spare without a copy.
 ghost use mathlib.Core.Path.{_≡_};
 ghost use mathlib.Core.Bool.{true, false, not, _&&_, _||_};
 ghost use mathlib.Core.Logic.{_↔_, _≢_};
@@ -17,7 +18,7 @@ ghost use Rattle.board.specs.Commands.{Malformed, needed, scoped, strict
 use crate::Board;
 use crate::Command;
 use crate::checks::sound_beside;
-use crate::effects::change;
+use crate::effects::effect_of;
 use crate::effects::has_part;
 use crate::rights::entitled;
 use crate::rights::hand;
@@ -403,9 +404,7 @@ fn remake_here(
 ) -> u8
     ensures { λ r. ⌜ RemadeHere (tables (now (live .entry)) (now (i .entry)) (now (a .entry))) c r (tables (now (live .exit)) (now (i .exit)) (now (a .exit))) (now (derives .exit)) (now (derivers .exit)) (now (manager .exit)) ⌝ }
 {
-    whole(*i);
-    whole(*a);
-    *live = change(*live, i, a, c);
+    *live = effect_of(*live, i, a, c);
     refused_after(*live, i, a, c, derives, derivers, manager)
 }
 

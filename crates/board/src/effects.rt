@@ -74,11 +74,12 @@ pub(crate) fn has_part(kind: u32, own: u32) -> bool
     kind == own || kind == 3
 }
 
-// Makes the tables those that the command would leave, and gives the live roles.
-pub(crate) fn change(live: u64, i: &mut [u64; 64], a: &mut [u64; 64], c: Command) -> u64
-    requires { ⌜ IsTable (now i) × IsTable (now a) ⌝ }
+// Makes the tables those that the command would leave, whether or not it is refused, and gives the live roles.
+pub fn effect_of(live: u64, i: &mut [u64; 64], a: &mut [u64; 64], c: Command) -> u64
     ensures { λ r. ⌜ tables r (now (i .exit)) (now (a .exit)) ≡ after (tables live (now (i .entry)) (now (a .entry))) c ⌝ }
 {
+    whole(*i);
+    whole(*a);
     edit(i, c, c.i_seniors, c.i_juniors, has_part(c.kind, 1));
     edit(a, c, c.a_seniors, c.a_juniors, has_part(c.kind, 2));
     living(live, c)
@@ -91,7 +92,7 @@ pub struct Left {
     pub a: [u64; 64],
 }
 
-// What a refusal of the tables afterwards, 7, 8 or 9, is about: a caller that wants to say more of it looks there.
+// The same by value: what a refusal of the tables afterwards, 7, 8 or 9, is about, for a caller that wants to say more of it.
 pub fn effect(b: Board, c: Command) -> Left
     ensures { λ r. ⌜ tables (r .live) (r .i) (r .a) ≡ after (tablesOf b) c ⌝ }
 {
@@ -99,13 +100,4 @@ pub fn effect(b: Board, c: Command) -> Left
     let mut a = b.a;
     let live = effect_of(b.live, &mut i, &mut a, c);
     Left { live, i, a }
-}
-
-// The same on tables that are lent.
-pub fn effect_of(live: u64, i: &mut [u64; 64], a: &mut [u64; 64], c: Command) -> u64
-    ensures { λ r. ⌜ tables r (now (i .exit)) (now (a .exit)) ≡ after (tables live (now (i .entry)) (now (a .entry))) c ⌝ }
-{
-    whole(*i);
-    whole(*a);
-    change(live, i, a, c)
 }

@@ -1,8 +1,14 @@
 use Rattle.board.proofs.Edits.{tables-are}
 use borrow.Author.Needs.{needs}
 use Rattle.hierarchy.specs.Tables.{tables}
-use Rattle.board.proofs.effects.change.Statement.{statement}
-use Rattle.board.proofs.effects.change.Tie as tie
+use Rattle.board.proofs.effects.effect_of.Statement.{statement}
+use Rattle.board.proofs.effects.effect_of.Tie as tie
+
+whole-requires : tie.Need-whole-requires
+whole-requires c κs = search needs
+
+whole-requires-2 : tie.Need-whole-requires-2
+whole-requires-2 c κs = search needs
 
 has-part-requires : tie.Need-has-part-requires
 has-part-requires c κs = search needs
@@ -21,16 +27,16 @@ living-requires c κs = search needs
 
 returns : tie.Need-returns
 returns c =
-    let q = c .before .before in
-    let p = q .before .before in
-    let s = p .before .before .before in
+    let s = c .before .before .before .before .before .before .before .before .before .before .before in
     tables-are (tables (s .args .live) (s .args .i .now) (s .args .a .now)) (s .args .c) _ _ _ _ _
-    (c .living .ensures) (p .before .has-part .ensures) (p .edit .ensures) (q .has-part2 .ensures) (c .before .edit2 .ensures)
+    (c .living .ensures) (c .before .before .before .before .before .has-part .ensures) (c .before .before .before .before .edit .ensures) (c .before .before .has-part2 .ensures) (c .before .edit2 .ensures)
 
-pub change-spec : {M : Type 1} → statement M
-change-spec =
+pub effect-of-spec : {M : Type 1} → statement M
+effect-of-spec =
     tie.close
     (tie.spec
+    whole-requires
+    whole-requires-2
     has-part-requires
     edit-requires
     has-part-requires-2
