@@ -10,9 +10,11 @@
 #   NAME refused REASON    there is something that can't be followed
 #
 # Each function is followed from its entry, instruction by instruction, with the height of the stack: how many bytes lie on it
-# since the entry. What can't be told is refused, never guessed. It believes the compiler in this: a called function puts %rbp
-# back, nobody writes over a return address, an index is below what was compared with it, and below the stack pointer nothing is
-# used but what an operand names from %rsp or %rbp (with an index: the whole red zone). Signal handlers aren't counted.
+# since the entry. What can't be told is refused. It believes the compiler in this: a called function puts %rbx, %rbp and %r12 to
+# %r15 back, nobody writes over a return address, an index of a table is below what was compared with it, a table ends where an entry
+# leads nowhere, and below the stack pointer nothing is used but by an operand from %rsp or %rbp, or by an address taken from there
+# that lies below it itself (with an index, or by such an address: the whole red zone; gcc was seen to go below from %rsp in another
+# register too, by up to these 128 bytes, LLVM was not). Signal handlers aren't counted.
 
 BEGIN {
     # Functions that have no body here, and what they take below their return address. Painted on x86-64 with glibc 2.36 and
@@ -25,8 +27,9 @@ BEGIN {
     RED_ZONE = 128 # that much below the stack pointer a function may use by the x86-64 convention
     WRITES_LAST = "^(mov[a-z]*|lea|add|sub|and|or|xor|adc|sbb|shl|shr|sar|imul|bt[rsc]?|cmov[a-z]+)$"
     PLAIN = "^(mov[a-z]*|lea|add|sub|and|or|xor|shl|shr|inc|dec|cmp[bwlq]?|test[bwlq]?|set[a-z]+|cmov[a-z]+|nop[wl]?|j[a-z]+)$"
-    PREFIX = "^(data16|addr32|cs|ds|es|fs|gs|ss|rep|repz|repnz|lock|bnd|notrack|rex[.A-Z]*) +"
-    NOT_FOLLOWED = "^(int[0-9]*|hlt|sys[a-z]+|[il]ret.*|lcall|ljmp|enter|xbegin|xabort|push[afw].*|pop[afw].*)$"
+    PREFIX = "^(data16|addr32|cs|ds|es|fs|gs|ss|rep|repz|repnz|lock|bnd|notrack|xacquire|xrelease|rex[.A-Z]*) +"
+    NOT_FOLLOWED = "^(int[0-9]*|hlt|sys[a-z]+|.*iret.*|lret.*|retw|lcall.*|ljmp.*|callw|jmpw|enter.*|leavew|loop.*|xbegin|xabort|" \
+        "push.+|pop.+)$"
     for (k = 0; k < 16; k++) digit[substr("0123456789abcdef", k + 1, 1)] = k
     name_registers()
 }
@@ -68,9 +71,10 @@ function heading(before) {
 }
 
 /^Disassembly of section / { heading("Disassembly of section "); part = "code"; begin_section(); next }
-/^RELOCATION RECORDS FOR / { heading("RELOCATION RECORDS FOR ["); part = "relocations"; next }
+/^RELOCATION RECORDS FOR / { heading("RELOCATION RECORDS FOR ["); part = "relocations"; see_once(section " "); next }
 /^Contents of section / { heading("Contents of section "); part = "bytes"; next }
-/^ +U [^ ]+$/ { if (!($2 in allowance)) unknown = unknown " " $2; next }
+/^ +U [^ ]+$/ { undefined[$2]; if (!($2 in allowance)) unknown = unknown " " $2; next }
+/^[0-9a-f]+ [WVuwv] [^ ]+$/ { yielding = yielding " " $3; next }
 part == "code" && /^[0-9a-f]+ <.*>:$/ { begin_function(); next }
 part == "code" && /^ *[0-9a-f]+:\t/ { add_instruction(); next }
 part == "code" && /^\t+[0-9a-f]+: R_X86_64_/ { relocation[instructions] = $3; next }
@@ -78,10 +82,14 @@ part == "code" && /^[ \t]+\.\.\.$/ { gap = 1; next }
 part == "relocations" && /^[0-9a-f]+ R_X86_64_/ { entry[section, hex($1)] = $3; next }
 part == "bytes" && section ~ /^\.rodata/ && kind == "program" && /^ [0-9a-f]+ / { add_bytes($1) }
 
+function see_once(what) {
+    if (what in sections) twice = what
+    sections[what]
+}
+
 # In a program addresses tell places apart, in an object sections and the offsets within.
 function begin_section() {
-    if (section in sections) twice = section
-    sections[section]
+    see_once(section)
     space = kind == "program" ? "" : section
 }
 
@@ -105,9 +113,11 @@ function add_instruction(    n, text) {
     while (text ~ PREFIX) sub(PREFIX, "", text)
     gsub(/[ \t]+/, " ", text)
     said[n] = text
+    gsub(/%[cds]s:/, "", text)
     op[n] = text
     sub(/[ ,].*/, "", op[n])
     if (op[n] ~ /^(call|ret|leave|push|pop|jmp)q$/) sub(/q$/, "", op[n])
+    if (op[n] ~ /^popcnt/) op[n] = "bit" op[n] # no pop
     args[n] = index(text, " ") ? substr(text, index(text, " ") + 1) : ""
     at[n] = hex(substr($1, 1, length($1) - 1))
     of[n] = functions
@@ -251,14 +261,16 @@ function follow(f,    k) {
     reach(f, first[f])
     while (waiting > 0 && !(f in problem)) step(f, todo[waiting--])
     for (k = 1; k <= tables && !(f in problem); k++) # a table found later may lead into the middle of one found before
-        if (!find_table(f, table_jump[k])) refuse(f, "jumps by '" said[table_jump[k]] "', which isn't seen to be a table")
+        if (!find_table(f, table_jump[k]) || table_length != length_then[table_jump[k]])
+            refuse(f, "jumps by '" said[table_jump[k]] "', which isn't seen to be a table")
     if (f in unsaid && !(f in problem)) see_all(f)
 }
 
-# Where a table's length isn't known, each instruction must be come to all the same, so that an entry more would lead to nothing new.
+# Where a table's length isn't known, each instruction must be come to all the same: an entry that was not read would show by what
+# only it leads to.
 function see_all(f,    i) {
     for (i = first[f]; i <= instructions && of[i] == f; i++)
-        if (!(i in height) && !passed[i] && op[i] !~ /^(nop[wl]?|xchg|int3|ud2)$/)
+        if (!(i in height) && !passed[i] && op[i] !~ /^(nop[wl]?|int3|ud2)$/ && said[i] != "xchg %ax,%ax")
             return refuse(f, "jumps by a table of no known length, and doesn't come to '" said[i] "'")
 }
 
@@ -279,7 +291,7 @@ function step(f, i) {
     reach(f, NEXT)
 }
 
-function is_jump(i) { return op[i] ~ /^(j[a-z]+|loop(e|ne)?)$/ }
+function is_jump(i) { return op[i] ~ /^j[a-z]+$/ && op[i] != "jmpw" }
 
 function give_back(f, i, how) {
     if (args[i] != "" && op[i] == "ret") refuse(f, "can't follow '" said[i] "'")
@@ -305,6 +317,8 @@ function call(f, i) {
 
 # Another function begins, with so many bytes more on the stack.
 function enter(f, i, more,    k) {
+    if (outside != "" && kind == "library" && !(outside in undefined))
+        return refuse(f, "calls " outside ", by a name that its code doesn't show")
     if (outside != "" && !(outside in allowance)) return refuse(f, "calls " outside ", which has no body here and no allowance")
     if (outside == "" && (!target || first[of[target]] != target))
         return refuse(f, "can't follow '" said[i] "' to a function's start")
@@ -321,7 +335,7 @@ function enter(f, i, more,    k) {
 function work(f, i,    o, m) {
     if (op[i] !~ /^[a-z][a-z0-9]*$/ || op[i] ~ NOT_FOLLOWED) return refuse(f, "can't follow '" said[i] "'")
     m = operands(i, o)
-    look_below(f, o, m)
+    look_below(f, i, o, m)
     if (op[i] ~ /^(push|pop)$/ && o[1] in register && o[1] != "%" register[o[1]]) refuse(f, "can't follow '" said[i] "'")
     else if (op[i] == "push") sink(f, H += 8)
     else if (op[i] == "pop" && !is(o[1], "rsp")) sink(f, H -= 8)
@@ -333,14 +347,28 @@ function work(f, i,    o, m) {
 }
 
 # Operands below the stack pointer, which is how a function that calls no other may use the stack without moving it.
-function look_below(f, o, m,    k, d) {
+function look_below(f, i, o, m,    k, d) {
     for (k = 1; k <= m; k++) {
         d = displacement(o[k], "rsp")
         if (d != "" && d < 0) sink(f, H - d)
-        if (o[k] ~ /^-0x[0-9a-f]+\(%rsp,/) sink(f, H + RED_ZONE)
-        if (COPY["rbp"] == "" || o[k] !~ /^-0x[0-9a-f]+\(%rbp[,)]/) continue
-        sink(f, COPY["rbp"] + hex(substr(o[k], 2, index(o[k], "(") - 2)))
+        if (o[k] ~ /\(%rsp,/ || COPY["rbp"] != "" && o[k] ~ /\(%rbp,|,%rbp[,)]/) sink(f, H + RED_ZONE)
+        d = COPY["rbp"] == "" ? "" : displacement(o[k], "rbp")
+        if (d != "" && d < 0) sink(f, COPY["rbp"] - d)
     }
+    if (op[i] == "lea") take_address(f, o)
+}
+
+# An address below the stack pointer that goes to a register may be gone on from there. (%r11 is where a frame that is taken step by
+# step ends, which lies far below.)
+function take_address(f, o,    d, from) {
+    if (o[2] == "%rsp" || o[2] == "%r11") return
+    d = displacement(o[1], "rsp")
+    from = H
+    if (d == "" && COPY["rbp"] != "") {
+        d = displacement(o[1], "rbp")
+        from = COPY["rbp"]
+    }
+    if (d != "" && from - d > H) sink(f, H + RED_ZONE)
 }
 
 # The stack is where the frame pointer says, `more` bytes below.
@@ -372,7 +400,7 @@ function round_down(f, i, multiple,    m) {
 # until the stack pointer is what %r11 holds.
 function grow(f, i, bytes) {
     if (is_stepping(i)) {
-        if (COPY["r11"] == "" || bytes <= 0 || COPY["r11"] <= H || (COPY["r11"] - H) % bytes != 0)
+        if (LOOSE || COPY["r11"] == "" || bytes <= 0 || COPY["r11"] <= H || (COPY["r11"] - H) % bytes != 0)
             return refuse(f, "takes stack in a loop whose end isn't known")
         H = COPY["r11"]
         NEXT = i + 4
@@ -393,6 +421,7 @@ function copy(i, o, wide,    d) {
     if (!may_write(i, wide) && !(op[i] == "leave" && wide == "rbp")) return
     if (op[i] == "mov" && o[1] == "%rsp" && o[2] == "%" wide) d = 0
     else if (op[i] == "lea" && o[2] == "%" wide) d = displacement(o[1], "rsp")
+    if (d != "" && LOOSE) refuse(of[i], "can't follow '" said[i] "' while the stack is rounded to a multiple")
     if (d != "") COPY[wide] = LOOSE ? "" : H - d
     else if (op[i] == "sub" && immediate(o[1]) && o[2] == "%" wide && COPY[wide] != "") COPY[wide] += hex(substr(o[1], 2))
     else COPY[wide] = ""
@@ -422,16 +451,18 @@ function held_address(all, wide) {
 function jump_by_table(f, i,    k) {
     if (!find_table(f, i)) return refuse(f, "jumps by '" said[i] "', which isn't seen to be a table")
     table_jump[++tables] = i
+    length_then[i] = table_length
     if (table_length < 0) unsaid[f] = 1
     for (k = 0; table_length < 0 || k < table_length; k++) {
         target = 0
         if (kind == "program") read_entry(k)
         else if ((table_section, table_start + 4 * k) in entry) place(entry[table_section, table_start + 4 * k], -4 * k)
-        if (!target || of[target] != f) break
+        if (!target) break
+        if (of[target] != f) return refuse(f, "jumps by a table whose entry " k " leads out of it")
         is_target[target] = 1
         reach(f, target)
     }
-    if (k < table_length || k == 0) refuse(f, "jumps by a table whose entry " k " leads out of it")
+    if (k < table_length || k == 0) refuse(f, "jumps by a table whose entry " k " leads nowhere")
 }
 
 # In a program an entry has four bytes, the lowest first: how far from the table's start.
@@ -443,16 +474,15 @@ function read_entry(k,    b, v) {
     if (("", table_start + v) in where) target = where["", table_start + v]
 }
 
-# Where the table stands, and how many entries it has; -1 where nothing says it, and it is read as far as it leads into the
-# function.
+# Where the table stands, and how many entries it has; -1 where nothing says it, and it is read as far as it leads anywhere.
 function find_table(f, i,    o, to, base, sum, load, k) {
     if (!(substr(args[i], 2) in register)) return 0
     to = register[substr(args[i], 2)]
     sum = setter(f, i, to)
     if (!sum || op[sum] != "add") return 0
     operands(sum, o)
+    if (!(o[1] in register) || o[1] != "%" register[o[1]] || o[2] != "%" to) return 0
     base = register[o[1]]
-    if (base == "") return 0
     load = setter(f, sum, to)
     if (!load || op[load] != "movslq") return 0
     for (k = load; k < sum; k++)
@@ -571,5 +601,6 @@ END {
     count = split(roots, root, " ")
     for (k = 1; k <= count; k++) print report(root[k])
     if (unknown != "") print "undefined refused" unknown " has no body here and no allowance"
-    exit refused || unknown != "" || count == 0
+    if (yielding != "") print "weak refused" yielding " may have another body elsewhere"
+    exit refused || unknown != "" || yielding != "" || count == 0
 }

@@ -104,7 +104,7 @@ other_entries:
         jmp     *%rax
 
 # The check lets more through than the table has.
-#= short_table refused in short_table: jumps by a table whose entry 1 leads out of it
+#= short_table refused in short_table: jumps by a table whose entry 1 leads nowhere
 short_table:
         cmp     $0x1, %rdi
         ja      .Lshort
@@ -115,7 +115,7 @@ short_table:
 .Lshort:
         ret
 
-# Nothing says how long the table is, and an entry that leads out ends the reading before all is seen.
+# Nothing says how long the table is, and an entry that leads nowhere ends the reading before all is seen.
 #= cut_table refused in cut_table: jumps by a table of no known length, and doesn't come to 'push %rbx'
 cut_table:
         lea     .Lcut_table(%rip), %rcx
@@ -125,6 +125,35 @@ cut_table:
 .Lcut0: ret
 .Lcut2: push    %rbx
         pop     %rbx
+        ret
+
+# An entry leads to another function, as where a compiler puts a case that is rare elsewhere.
+#= table_out refused in table_out: jumps by a table whose entry 1 leads out of it
+table_out:
+        lea     .Lout_table(%rip), %rcx
+        movslq  (%rcx,%rdi,4), %rax
+        add     %rcx, %rax
+        jmp     *%rax
+.Lout0: ret
+
+# The second table leads past the check of the first.
+#= past_by_table refused in past_by_table: jumps by 'jmp *%rax', which isn't seen to be a table
+past_by_table:
+        cmp     $0x0, %edi
+        ja      .Lpast_by2
+.Lpast_by1:
+        lea     .Lpast_by_table(%rip), %rcx
+        movslq  (%rcx,%rdi,4), %rax
+        add     %rcx, %rax
+        jmp     *%rax
+.Lpast_by2:
+        cmp     $0x1, %esi
+        ja      .Lpast_by3
+        lea     .Lpast_by_table(%rip), %rcx
+        movslq  (%rcx,%rsi,4), %rax
+        add     %rcx, %rax
+        jmp     *%rax
+.Lpast_by3:
         ret
 
 # A called function need not put that register back.
@@ -321,18 +350,46 @@ zeros:  push    %rbx
         pop     %rbx
         ret
 
+#= copies_rounded refused in copies_rounded: can't follow 'mov %rsp,%rbp' while the stack is rounded to a multiple
+copies_rounded:
+        push    %rbp
+        and     $-0x20, %rsp
+        mov     %rsp, %rbp
+        mov     %rdi, -0x60(%rbp)
+        ud2
+
+# Whatever its name says, the code that is called stands here.
+#= called_by_an_alias refused in called_by_an_alias: calls memcpy, by a name that its code doesn't show
+called_by_an_alias:
+        call    memcpy
+        ret
+        .globl  copy_it, memcpy
+copy_it:
+memcpy: push    %rbx
+        pop     %rbx
+        ret
+
+        .weak   yielding
+yielding:
+        ret
+
 #= traps refused in traps: can't follow 'int3'
 traps:  int3
 
 # What the object asks for from outside, called or not, needs an allowance as well.
 #= undefined refused elsewhere has no body here and no allowance
+#= weak refused yielding may have another body elsewhere
 
         .section .rodata
         .balign 4
 .Lshort_table:
         .long   .Lshort - .Lshort_table
 .Lcut_table:
-        .long   .Lcut0 - .Lcut_table, nothing - .Lcut_table, .Lcut2 - .Lcut_table
+        .long   .Lcut0 - .Lcut_table, 0, .Lcut2 - .Lcut_table
+.Lout_table:
+        .long   .Lout0 - .Lout_table, nothing - .Lout_table
+.Lpast_by_table:
+        .long   .Lpast_by3 - .Lpast_by_table, .Lpast_by1 - .Lpast_by_table
 .Litself_table:
         .long   .Litself - .Litself_table
 .Llate_table:

@@ -291,6 +291,26 @@ outside_by_jump:
 ends:   push    %rbx
         ud2
 
+# Below the stack pointer by an index, or by an address that was taken below it: up to the whole red zone.
+#= red_zone_upwards 136 red_zone_upwards 136
+red_zone_upwards:
+        mov     %rdi, (%rsp,%rax,8)
+        ret
+
+#= red_zone_by_frame_and_index 144 red_zone_by_frame_and_index 144
+red_zone_by_frame_and_index:
+        push    %rbp
+        mov     %rsp, %rbp
+        mov     %cl, 0x0(%rbp,%rdx,1)
+        pop     %rbp
+        ret
+
+#= red_zone_by_address 136 red_zone_by_address 136
+red_zone_by_address:
+        lea     -0x14(%rsp), %r8
+        mov     %cl, (%r8,%rax,1)
+        ret
+
 # What a program is followed from.
 #= main 80 main 24 > pushes 56
         .globl  main

@@ -15,7 +15,7 @@ describe() { # library|program FILE
     binary objdump -dr --no-show-raw-insn "$2"
     case $1 in
     program) binary objdump -s "$2" ;;
-    library) binary objdump -r "$2" && binary nm -u "$2" ;;
+    library) binary objdump -r "$2" && binary nm "$2" ;;
     esac
 }
 
@@ -38,7 +38,7 @@ program_bounds() { # FILE
 
 holds() { # library|program FILE SOURCE
     sed -n 's/^#= //p' "$here/stack/$3" >"$build/wanted"
-    bounds "$1" "$build/$2" "$(sed '/^undefined /d; s/ .*//' "$build/wanted" | tr '\n' ' ')" >"$build/read"
+    bounds "$1" "$build/$2" "$(sed '/^undefined /d; /^weak /d; s/ .*//' "$build/wanted" | tr '\n' ' ')" >"$build/read"
     [ -s "$build/wanted" ] && diff "$build/wanted" "$build/read" >&2 || die "the reader of stack is wrong about $3, as a $1"
     count=$(grep -c . "$build/wanted")
 }

@@ -84,13 +84,14 @@ beforeOff b c = before (DerivesBy (b .derives)) (ScopeBy (b .derives) (b .derive
 abbrev pub DecidedOff : Board → Command → Answer → Board → Type 0
 DecidedOff b c = DecidedBy (beforeOff b c ++ lateOf (after (tablesOf b) c) c) (BlamesBy (b .derives) (b .derivers) c) (KeptOff b c) b c
 
--- A board that the caller can spare. Done is done, and a refusal answers as it does elsewhere; one of the rows on the board handed in leaves the
--- board, one of the rows afterwards leaves the tables that they are about, with what was worked out for them, and the rights.
+-- what a refusal of the rows afterwards leaves of a board that the caller can spare: the tables that they are about, with what was worked out
+-- for these, and the rights
 pub record SparedOff (b : Board) (c : Command) (board : Board) : Type 0 where
   pub tables-are : tablesOf board ≡ after (tablesOf b) c
   pub worked : WorkedOn (tablesOf board) (board .derives) (board .derivers) (board .manager)
   pub rights-are : board .rights ≡ b .rights
 
+-- A command on such a board: done is as elsewhere, and so is what a refusal answers; one of the rows on the board handed in leaves the board.
 pub record TriedOff (b : Board) (c : Command) (answer : Answer) (board : Board) : Type 0 where
   pub done : answer .number ≡ 0 → DecidedOff b c answer board
   pub refused : answer .number ≢ 0 → DecidedOff b c answer b
