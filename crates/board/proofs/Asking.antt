@@ -1,4 +1,4 @@
--- The answers of the questions, from what the code works out. Assumes nothing.
+-- Rows 2 and 3 of what is asked about named roles, and an answer by its number. Assumes nothing.
 use mathlib.Core.Path.{_≡_, refl, subst}
 use mathlib.Core.Bool.{false}
 use mathlib.Core.Logic.{_⊎_, inl, inr, ⊎-elim, _≢_}
@@ -7,14 +7,10 @@ use Prim.Native.Nat.{ℕ, _<_}
 use native.Mathlib.Omega.{arith}
 use Rattle.sets.specs.Sets.{bit, _isIn_}
 use Rattle.sets.proofs.Bools.{true-or-false, false-no, lt-or-ge}
-use Rattle.hierarchy.specs.Words.{Sound}
 use Rattle.hierarchy.specs.First.{First}
-use Rattle.hierarchy.proofs.Decide.{sound-dec}
 use Rattle.hierarchy.proofs.FirstLaws.{hit, pass, none}
-use Rattle.board.specs.Boards.{tablesOf, SoundBoard}
-use Rattle.board.specs.Questions.{misnamed, refusals, Answered}
-use Rattle.board.specs.declared.Board.{Board}
-use Rattle.board.proofs.Rules.{stable, first-done}
+use Rattle.board.specs.Asked.{misnamed, Answered}
+use Rattle.board.proofs.Rules.{first-done}
 
 -- ---- the refusals of a sound board
 
@@ -48,16 +44,6 @@ asked live x y n f z =
       y-live = ⊎-elim (λ e. e) (λ e. absurd (rows .1 .0 (inr (false-no e)))) (true-or-false (bit live y));
     }
 
--- and of any board
-pub asked-1 : (b : Board) (x y : ℕ) → (SoundBoard b → ⊥) → First (refusals b x y) 1
-asked-1 b x y n = hit _ _ _ n
-
--- what is not refused is asked of sound tables
-pub asked-sound : (b : Board) (x y n : ℕ) → First (refusals b x y) n → n ≡ 0 → Sound (tablesOf b)
-asked-sound b x y n f z =
-    let rows = first-done (refusals b x y) refl (subst (First (refusals b x y)) z f) in
-    stable (sound-dec (tablesOf b)) (λ k. rows .0 (λ s. k (s .sound)))
-
 -- ---- an answer, by its number
 
 module _ {A : Type 0} {rules : List (ℕ × Type 0)} {Right : A → Type 0} {none : A} {n : ℕ} (f : First rules n) where
@@ -66,10 +52,6 @@ module _ {A : Type 0} {rules : List (ℕ × Type 0)} {Right : A → Type 0} {non
 
   pub answer-done : {v : A} → n ≡ 0 → Right v → Answered rules Right none n v
   answer-done z h = record { numbered = f; done = λ _. h; refused = λ k. absurd (k z) }
-
--- of a board that isn't sound
-pub answer-unsound : {A : Type 0} {Right : A → Type 0} {none : A} (b : Board) (x y : ℕ) → (SoundBoard b → ⊥) → Answered (refusals b x y) Right none 1 none
-answer-unsound b x y n = answer-refused (asked-1 b x y n) (λ k. omega (arith, k))
 
 -- what is the same whatever the table and the words: a value that is right by the one is right by the other
 pub answer-as : {A : Type 0} {rules rules′ : List (ℕ × Type 0)} {Right Right′ : A → Type 0} {none v : A} {n : ℕ}

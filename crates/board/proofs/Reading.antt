@@ -9,8 +9,8 @@ use lib.Dec.{ltb}
 use lib.ListN.{length, List·getD-eq-default}
 use borrow.Author.Tests.{eq-eqb, ne-eqb, lt-ltb, le-ltb, ltb-false}
 use Rattle.hierarchy.specs.Views.{managerAt, stepsUp}
-use Rattle.board.specs.Looks.{managerFrom}
-use Rattle.board.specs.declared.questions.Manager.the-variants.{Role, Nobody}
+use Rattle.board.specs.Kept.{managerFrom}
+use Rattle.board.specs.declared.kept.Manager.the-variants.{Role, Nobody}
 
 -- ---- a manager as an answer
 

@@ -3,13 +3,13 @@ use mir.Val.{Val}
 use denote.Struct.Laws.{val}
 use Rattle.board.specs.declared.Board.{Board}
 use Rattle.board.specs.declared.Command.{Command}
-use Rattle.board.specs.declared.commands.Answer.{Answer}
+use Rattle.board.specs.declared.answers.Answer.{Answer}
 use Rattle.board.proofs.Board as B
 use Rattle.board.proofs.Board.Laws as B′
 use Rattle.board.proofs.Command as Cm
 use Rattle.board.proofs.Command.Laws as Cm′
-use Rattle.board.proofs.commands.Answer as An
-use Rattle.board.proofs.commands.Answer.Laws as An′
+use Rattle.board.proofs.answers.Answer as An
+use Rattle.board.proofs.answers.Answer.Laws as An′
 
 abbrev pub ofBoard : Board → Val
 ofBoard = val B.the-type B′.the-laws

@@ -1,9 +1,6 @@
--- The board, its commands and its questions, as document 01 and the requests that have landed have them.
+-- The board: its records, soundness, rights, and what is asked about named roles.
 pub mod Boards
-pub mod Effects
 pub mod Rights
-pub mod Commands
-pub mod EdgeParts
-pub mod Questions
-pub mod Looks
-pub mod Rows
+pub mod Asked
+pub mod Answers
+pub mod Kept

@@ -1,17 +1,22 @@
 // What a board keeps, read without working anything out: for a page that shows a board all day. The answer is the one that stands in
 // what is lent, whatever that is; of a sound board it is document 01's (`Rattle.board.proofs.Viewing`).
 ghost use mathlib.Core.Path.{_≡_};
 ghost use mathlib.Core.Logic.{_↔_};
 ghost use Prim.Native.Nat.{ℕ};
 ghost use Rattle.sets.specs.Sets.{bit, _isIn_};
 ghost use Rattle.hierarchy.specs.Tables.{row};
 ghost use Rattle.hierarchy.specs.Views.{ScopeBy, managerAt, stepsUp};
-ghost use Rattle.board.specs.Looks.{managerFrom};
+ghost use Rattle.board.specs.Kept.{managerFrom};
 use crate::Board;
-use crate::questions::Manager;
-use crate::shape::whole;
-use crate::shape::whole_row;
+use hierarchy::shape::whole;
+use hierarchy::shape::whole_row;
 use sets::has;
+
+// The line manager of a role, or nobody: a caller has to meet both.
+pub enum Manager {
+    Role(u8),
+    Nobody,
+}
 
 // Whether x derives y.
 pub fn derives(derives: &[u64; 64], x: u32, y: u32) -> bool
@@ -28,7 +33,7 @@ pub fn derives(derives: &[u64; 64], x: u32, y: u32) -> bool
 pub fn scope<'v>(derives: &'v [u64; 64], derivers: &'v [u64; 64], a: u32) -> u64
     ensures { λ y. ⌜ ((r : ℕ) → (r isIn y) ↔ ScopeBy (now (derives .entry)) (now (derivers .entry)) a r) ⌝ }
 {
-    hierarchy::scopes::scope(derives, derivers, a as usize)
+    scopes::scope(derives, derivers, a as usize)
 }
 
 // The line manager of r, or nobody.

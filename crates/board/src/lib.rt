@@ -1,19 +1,14 @@
-// The cooperative's board: its roles, edges and rights, the seven commands that change it and the four questions about it.
-//
-// A command is one call, `step`: it checks the board it is handed, decides, and gives back the answer and the board, changed where
-// the number is 0 and as it was where it is not. Nobody has to test anything before.
+// The records that all else speaks of: a board, a command, its answer; the founding board, whether a board is sound, and what it keeps. Knows
+// the words of `hierarchy` and scopes; decides nothing.
 ghost use mathlib.Core.Path.{_≡_};
 ghost use Rattle.board.specs.Boards.{foundingBoard};
 
+pub mod answers;
 pub mod checks;
-pub mod commands;
-pub mod effects;
+mod entries;
 pub mod kept;
-pub mod lent;
-pub mod questions;
+pub mod parts;
 mod rights;
-mod shape;
-mod tables;
 
 // `live` is the set of the live roles. Row x of `i` is the set of the juniors that role x has by I, row x of `a` of those by A; an
 // IA edge is in both. The rest is kept so that nobody has to work it out again: row x of `derives` is the set of what x derives, row

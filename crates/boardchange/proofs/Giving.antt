@@ -6,10 +6,10 @@ use Prim.Native.Nat.{ℕ, _+_, _-_, _<_}
 use lib.Dec.{eqb}
 use lib.ListN.{length, getD, take, drop}
 use borrow.Author.Tests.{eq-eqb, ne-eqb}
-use Rattle.board.specs.Commands.{Decided}
 use Rattle.board.specs.declared.Board.{Board}
 use Rattle.board.specs.declared.Command.{Command}
-use Rattle.board.specs.declared.commands.Answer.{Answer}
+use Rattle.board.specs.declared.answers.Answer.{Answer}
+use Rattle.commands.specs.Commands.{Decided}
 use Rattle.runs.specs.Runs.{Ran, over, given}
 use Rattle.runs.proofs.Running.{ran-join}
 use Rattle.wording.specs.Texts.{pieces, wordAt}

@@ -7,7 +7,7 @@ use lib.Dec.{eqb}
 use lib.ListN.{length, getD}
 use Rattle.board.specs.declared.Board.{Board}
 use Rattle.board.specs.declared.Command.{Command}
-use Rattle.board.specs.declared.commands.Answer.{Answer}
+use Rattle.board.specs.declared.answers.Answer.{Answer}
 use Rattle.runs.specs.Runs.{Ran}
 use Rattle.wording.specs.Texts.{pieces, wordAt}
 use Rattle.wording.specs.Meanings.{meaningOf}

@@ -6,7 +6,7 @@ use crate::system::keep_mode;
 use crate::system::see;
 use board::Board;
 use boardfile::lent::read_into;
-use boardfile::lent::write_of;
+use writer::write_of;
 
 // How much was read: n bytes, and whether no read failed.
 pub(crate) struct Amount {

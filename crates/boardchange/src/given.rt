@@ -8,7 +8,7 @@ ghost use Rattle.wording.specs.Texts.{pieces};
 ghost use Rattle.boardchange.specs.Texts.{meantBy, passed?, lineCommands, commandsOf, textCommands, Gave};
 use crate::reasons::say_answer;
 use crate::reasons::say_wrong;
-use board::commands::settle;
+use commands::decide;
 use wording::Meaning;
 use wording::meant;
 use wording::pieces::NEWLINE;
@@ -34,7 +34,7 @@ fn turn(
     let m = meant(line);
     match m {
         Meaning::Means(c) => {
-            let answer = settle(live, i, a, derives, derivers, manager, rights, c);
+            let answer = decide(live, i, a, derives, derivers, manager, rights, c);
             if aloud {
                 say_answer(*live, i, a, derives, rights, c, answer, number);
             }

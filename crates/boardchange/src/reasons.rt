@@ -8,10 +8,10 @@ use crate::lines::put_quoted;
 use crate::lines::say;
 use board::Board;
 use board::Command;
-use board::commands::Answer;
-use board::effects::effect_of;
-use hierarchy::scopes::bars;
+use board::answers::Answer;
+use effects::effect;
 use hierarchy::working::work_out;
+use scopes::bars;
 use sets::Pick;
 use sets::has;
 use sets::lowest;
@@ -318,7 +318,7 @@ fn left_by<'t>(
 ) -> u64 {
     let mut new_i = *i;
     let mut new_a = *a;
-    let new_live = effect_of(live, &mut new_i, &mut new_a, c);
+    let new_live = effect(live, &mut new_i, &mut new_a, c);
     work_out(new_live, &new_i, &new_a, derives, derivers, manager);
     new_live
 }

@@ -10,15 +10,16 @@ use Rattle.sets.specs.Sets.{_isIn_}
 use Rattle.hierarchy.specs.Tables.{Tables}
 use Rattle.hierarchy.specs.First.{First}
 use Rattle.board.specs.Boards.{tablesOf}
-use Rattle.board.specs.Questions.{misnamed, Answered}
-use Rattle.board.specs.Questions.{refusals as questionRefusals}
+use Rattle.board.specs.Asked.{misnamed, Answered}
 use Rattle.board.specs.declared.Board.{Board}
 use Rattle.board.proofs.Rules.{first-alike, first-done, first-refused, first-next}
 use Rattle.board.proofs.Asking.{answer-as}
-use Rattle.boardfile.specs.Files.{stretchOf}
-use Rattle.boardfile.specs.Answers.{IsFile, TablesIn, refusals, ReadAnswer, askedRefusals, OfFile, startOrNone, Stands, BoundsAnswer, StretchAnswer}
-use Rattle.boardfile.proofs.OneFile.{named-by}
-use Rattle.boardfile.proofs.Places.{stands-small, place-inside, place-is}
+use Rattle.questions.specs.Questions.{refusals as questionRefusals}
+use Rattle.writer.specs.Files.{stretchOf}
+use Rattle.writer.specs.Writing.{startOrNone, Stands}
+use Rattle.writer.proofs.Places.{stands-small, place-inside, place-is}
+use Rattle.boardfile.specs.Answers.{IsFile, TablesIn, refusals, ReadAnswer, askedRefusals, OfFile, BoundsAnswer, StretchAnswer}
+use Rattle.boardfile.proofs.OneBoard.{named-by}
 
 -- ---- the numbers
 

@@ -6,16 +6,20 @@ use Prim.Native.Nat.{ℕ, _≤_}
 use native.Mathlib.Omega.{arith}
 use Rattle.hierarchy.specs.First.{First}
 use Rattle.board.specs.Boards.{tablesOf, SoundBoard}
-use Rattle.board.specs.Commands.{plain, Decided}
+use Rattle.board.specs.Answers.{plain}
 use Rattle.board.specs.declared.Board.{Board}
 use Rattle.board.specs.declared.Command.{Command}
-use Rattle.board.specs.declared.commands.Answer.{Answer}
-use Rattle.boardfile.specs.declared.commands.Place.{Place}
-use Rattle.boardfile.specs.declared.commands.Place.the-variants.{Asked, File, Writing}
-use Rattle.boardfile.specs.Files.{fileOf}
-use Rattle.boardfile.specs.Answers.{ReadAnswer, writeRefusals, WriteAnswer, CommandAnswer, CommandAnswer.unread, CommandAnswer.refused, CommandAnswer.no-room, CommandAnswer.done}
-use Rattle.boardfile.specs.Parts.{PutAnswer}
-use Rattle.boardfile.proofs.Theorems.{sound-length, put-writes}
+use Rattle.board.specs.declared.answers.Answer.{Answer}
+use Rattle.commands.specs.Commands.{Decided}
+use Rattle.writer.specs.Files.{fileOf}
+use Rattle.writer.specs.Writing.{writeRefusals, WriteAnswer}
+use Rattle.writer.specs.Parts.{PutAnswer}
+use Rattle.boardfile.specs.Answers.{ReadAnswer, CommandAnswer}
+use Rattle.boardfile.specs.Answers.{CommandAnswer.unread, CommandAnswer.refused, CommandAnswer.no-room, CommandAnswer.done}
+use Rattle.boardfile.specs.declared.change.Place.{Place}
+use Rattle.boardfile.specs.declared.change.Place.the-variants.{Asked, File, Writing}
+use Rattle.writer.proofs.Filed.{put-writes}
+use Rattle.boardfile.proofs.Theorems.{sound-length}
 
 -- a done command leaves a sound board
 sound-next : {b next : Board} {c : Command} → Decided b c (plain 0) next → SoundBoard next

@@ -17,13 +17,17 @@ use Rattle.sets.proofs.Digits.{bit-zero}
 use Rattle.sets.proofs.Laws.{same-eq, same-self, bit-lt}
 use Rattle.hierarchy.specs.Tables.{tables, row, kindOf, kind, IsTable, hasI, hasA}
 use Rattle.hierarchy.proofs.Derive.{bit-i, bit-a}
-use Rattle.boardfile.specs.Files.{from, edgeBytes, records, kindAt}
-use Rattle.boardfile.specs.Faults.{byte, senior, junior, kindByte, place, Listed, BadRecord, BadRecord.no-senior, BadRecord.no-junior, BadRecord.itself, BadRecord.no-kind, BadRecord.edge-order}
-use Rattle.boardfile.specs.Parts.{Announced, GoodRoles, Spelt, Right, Wrong, Wrong.dead-senior, Wrong.dead-junior, Wrong.same, Wrong.unknown, Fine, GoodEdges}
-use Rattle.boardfile.proofs.Bytes.{bytes, take-bytes, edge-next, edge-end}
-use Rattle.boardfile.proofs.FoundingRights.{blank-at}
-use Rattle.boardfile.proofs.RoleBytes.{past, late}
-use Rattle.boardfile.proofs.RoleBytes.{listed-lives as lives}
+use Rattle.frames.specs.Frames.{byte}
+use Rattle.frames.specs.Framing.{Announced}
+use Rattle.frames.proofs.Bytes.{bytes, take-bytes}
+use Rattle.writer.specs.Files.{from, edgeBytes, records, kindAt}
+use Rattle.writer.proofs.EdgeBytes.{edge-next, edge-end}
+use Rattle.writer.proofs.FoundingRights.{blank-at}
+use Rattle.boardfile.specs.Faults.{senior, junior, kindByte, place, Listed, BadRecord}
+use Rattle.boardfile.specs.Faults.{BadRecord.no-senior, BadRecord.no-junior, BadRecord.itself, BadRecord.no-kind, BadRecord.edge-order}
+use Rattle.boardfile.specs.Parts.{GoodRoles, Spelt, Right, Wrong, Fine, GoodEdges}
+use Rattle.boardfile.specs.Parts.{Wrong.dead-senior, Wrong.dead-junior, Wrong.same, Wrong.unknown}
+use Rattle.boardfile.proofs.RoleBytes.{past, late, listed-lives as lives}
 
 -- ---- one entry more in a table: u is the new row of s, which has j besides where part is true
 

@@ -13,13 +13,17 @@ use Rattle.sets.specs.Sets.{bit}
 use Rattle.sets.proofs.Bools.{true-or-false, false-no}
 use Rattle.hierarchy.specs.Tables.{Tables}
 use Rattle.board.specs.Rights.{rightsOf, foundingRights, RightsFit}
-use Rattle.boardfile.specs.Files.{from, records, edge?, edgeBytes, kindAt, founding?, fileOf}
-use Rattle.boardfile.specs.Faults.{byte, EndsHR, roleCount, edgeCount, senior, junior, kindByte, place, rightsByte, Listed, BadFrame, BadRecord, BadRecord.first-role, BadRecord.high-role, BadRecord.role-order, BadRecord.no-senior, BadRecord.no-junior, BadRecord.itself, BadRecord.no-kind, BadRecord.edge-order, BadRecord.high-rights, BadRecord.founding-rights}
-use Rattle.boardfile.specs.Parts.{Trailed, Fine}
-use Rattle.boardfile.proofs.Ascending.{from-at, from-rises, from-first, from-has, from-short, Stands}
-use Rattle.boardfile.proofs.Bytes.{records-length, records-at, edge-there, map-at, whole, whole-trailed, byte-role, byte-edge, byte-right, file-whole}
-use Rattle.boardfile.proofs.FoundingRights.{founding-other, founding-yes}
-use Rattle.boardfile.proofs.Frames.{said, trailed-roles, trailed-edges, no-bad-frame}
+use Rattle.frames.specs.Frames.{byte, EndsHR, roleCount, edgeCount, BadFrame}
+use Rattle.frames.specs.Framing.{Trailed}
+use Rattle.frames.proofs.Bytes.{map-at, whole, whole-trailed, byte-role, byte-edge, byte-right}
+use Rattle.frames.proofs.Frames.{said, trailed-roles, trailed-edges, no-bad-frame}
+use Rattle.writer.specs.Files.{from, records, edge?, edgeBytes, kindAt, founding?, fileOf}
+use Rattle.writer.proofs.Ascending.{from-at, from-rises, from-first, from-has, from-short, Stands}
+use Rattle.writer.proofs.EdgeBytes.{records-length, records-at, edge-there, file-whole}
+use Rattle.writer.proofs.FoundingRights.{founding-other, founding-yes}
+use Rattle.boardfile.specs.Faults.{senior, junior, kindByte, place, rightsByte, Listed, BadRecord}
+use Rattle.boardfile.specs.Faults.{BadRecord.first-role, BadRecord.high-role, BadRecord.role-order, BadRecord.no-senior, BadRecord.no-junior, BadRecord.itself, BadRecord.no-kind, BadRecord.edge-order, BadRecord.high-rights, BadRecord.founding-rights}
+use Rattle.boardfile.specs.Parts.{Fine}
 
 pub record Tidy (lives : ℕ → Bool) (kinds : ℕ → ℕ) : Type 0 where
   pub root : lives 0 ≡ true

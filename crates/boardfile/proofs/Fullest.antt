@@ -13,11 +13,12 @@ use lib.ListN.{length, length-append}
 use borrow.Author.Tests.{eqb-true, eq-eqb}
 use Rattle.sets.specs.Sets.{num}
 use Rattle.hierarchy.specs.Tables.{Tables, kind}
-use Rattle.hierarchy.specs.Words.{Loops, Way.edge, Way.then}
-use Rattle.boardfile.specs.Files.{from, edge?, kindAt}
-use Rattle.boardfile.proofs.Ascending.{from-split}
-use Rattle.boardfile.proofs.Bytes.{edge-there}
-use Rattle.boardfile.proofs.OneFile.{at-place}
+use Rattle.hierarchy.specs.Words.{Loops}
+use Rattle.hierarchy.specs.Words.{Way.edge, Way.then}
+use Rattle.writer.specs.Files.{from, edge?, kindAt}
+use Rattle.writer.proofs.Ascending.{from-split}
+use Rattle.writer.proofs.EdgeBytes.{edge-there}
+use Rattle.writer.proofs.OneFile.{at-place}
 
 -- ---- sums
 

@@ -1,23 +1,12 @@
--- A reader starts at Demands, then Theorems; Settled says that each contract allows one answer. The rest is what the proofs stand on.
-pub mod Demands
-pub mod Ascending
-pub mod FoundingRights
-pub mod Bytes
-pub mod Faultless
-pub mod OneFile
-pub mod Frames
+-- A reader starts at Theorems; Unique says that each contract allows one answer. The rest is what the proofs stand on.
+pub mod Theorems
+pub mod Unique
+pub mod OneBoard
 pub mod RoleBytes
 pub mod EdgeRecords
 pub mod RightBytes
+pub mod Faultless
 pub mod Readings
-pub mod Puts
-pub mod Writings
-pub mod Counts
-pub mod Filed
-pub mod InThree
-pub mod Places
 pub mod Asking
 pub mod Fullest
-pub mod Theorems
 pub mod Commanding
-pub mod Settled

@@ -20,15 +20,19 @@ use Rattle.board.specs.Boards.{boardOf, foundingBoard, SoundBoard}
 use Rattle.board.specs.declared.Board.{Board}
 use Rattle.board.proofs.Rules.{first-alike}
 use Rattle.board.proofs.Looking.{disordered-loops, worked-sound, worked-right}
-use Rattle.boardfile.specs.Files.{from, edgeBytes, kindAt, founding?}
-use Rattle.boardfile.specs.Faults.{BadFrame, BadRecord}
-use Rattle.boardfile.specs.Parts.{bodyLength, trailerOf, GoodFrame, GoodRoles, GoodEdges, Granted, Opening}
+use Rattle.frames.specs.Frames.{BadFrame}
+use Rattle.frames.specs.Framing.{bodyLength, trailerOf, GoodFrame}
+use Rattle.frames.proofs.Bytes.{whole}
+use Rattle.frames.proofs.Frames.{announced}
+use Rattle.writer.specs.Files.{from, edgeBytes, kindAt, founding?}
+use Rattle.writer.proofs.EdgeBytes.{file-whole}
+use Rattle.writer.proofs.FoundingRights.{founding-itself, founding-fit}
+use Rattle.writer.proofs.OneFile.{at-place}
+use Rattle.boardfile.specs.Faults.{BadRecord}
+use Rattle.boardfile.specs.Parts.{GoodRoles, GoodEdges, Granted, Opening}
 use Rattle.boardfile.specs.Answers.{IsFile, TablesIn, refusals, ReadAnswer, ReadInto}
-use Rattle.boardfile.proofs.Bytes.{whole, file-whole}
 use Rattle.boardfile.proofs.Faultless.{Tidy, good-records}
-use Rattle.boardfile.proofs.FoundingRights.{founding-itself, founding-fit}
-use Rattle.boardfile.proofs.Frames.{announced}
-use Rattle.boardfile.proofs.OneFile.{at-place, named-by}
+use Rattle.boardfile.proofs.OneBoard.{named-by}
 use Rattle.boardfile.proofs.RoleBytes.{listed-many}
 
 -- ---- kinds

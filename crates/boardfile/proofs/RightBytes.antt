@@ -12,15 +12,18 @@ use lib.Seq.{ext-getD, getD-take, getD-drop, getD-set-same, getD-set-other, getD
 use Rattle.sets.specs.Sets.{bit, _isIn_, same?, LowestRole, NoRole}
 use Rattle.sets.proofs.Bools.{lt-or-ge, false-no}
 use Rattle.board.specs.Rights.{rightsOf, foundingRights, RightsFit}
-use Rattle.boardfile.specs.Files.{from, founding?}
-use Rattle.boardfile.specs.Faults.{byte, rightsByte, BadRecord, BadRecord.high-rights, BadRecord.founding-rights}
-use Rattle.boardfile.specs.Parts.{bodyLength, GoodFrame, Announced, GoodRoles, Held, GoodRights, Granting}
-use Rattle.boardfile.proofs.Ascending.{from-at, from-mono}
-use Rattle.boardfile.proofs.Bytes.{byte-part, map-at}
-use Rattle.boardfile.proofs.FoundingRights.{blank-at, founding-at}
-use Rattle.boardfile.proofs.Frames.{said, announced}
+use Rattle.frames.specs.Frames.{byte}
+use Rattle.frames.specs.Framing.{bodyLength, GoodFrame, Announced}
+use Rattle.frames.proofs.Bytes.{byte-part, map-at}
+use Rattle.frames.proofs.Frames.{said, announced}
+use Rattle.writer.specs.Files.{from, founding?}
+use Rattle.writer.proofs.Ascending.{from-at, from-mono}
+use Rattle.writer.proofs.FoundingRights.{blank-at, founding-at}
+use Rattle.writer.proofs.Puts.{Taking, taking-start, taking-next, taking-there, taking-turn, taking-end}
+use Rattle.boardfile.specs.Faults.{rightsByte, BadRecord}
+use Rattle.boardfile.specs.Faults.{BadRecord.high-rights, BadRecord.founding-rights}
+use Rattle.boardfile.specs.Parts.{GoodRoles, Held, GoodRights, Granting}
 use Rattle.boardfile.proofs.RoleBytes.{listed-many, listed-at}
-use Rattle.boardfile.proofs.Puts.{Taking, taking-start, taking-next, taking-there, taking-turn, taking-end}
 
 pub record SoFar (f : List ℕ) (at live k rest : ℕ) (rights : List ℕ) : Type 0 where
   pub next : ℕ

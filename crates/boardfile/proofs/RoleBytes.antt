@@ -14,10 +14,12 @@ use Rattle.sets.specs.Sets.{bit, _isIn_, same?}
 use Rattle.sets.proofs.Bools.{not-so, or-cases, or-right, false-no}
 use Rattle.sets.proofs.Digits.{bit-zero}
 use Rattle.sets.proofs.Laws.{same-eq, same-self}
-use Rattle.boardfile.specs.Files.{from}
-use Rattle.boardfile.specs.Faults.{byte, roleCount, BadRecord, BadRecord.role-order}
+use Rattle.frames.specs.Frames.{byte, roleCount}
+use Rattle.writer.specs.Files.{from}
+use Rattle.writer.proofs.Ascending.{from-next, from-end, from-at}
+use Rattle.boardfile.specs.Faults.{BadRecord}
+use Rattle.boardfile.specs.Faults.{BadRecord.role-order}
 use Rattle.boardfile.specs.Parts.{GoodRoles}
-use Rattle.boardfile.proofs.Ascending.{from-next, from-end, from-at}
 
 -- ---- for both orders: the least number that may follow k numbers
 

@@ -13,27 +13,32 @@ use borrow.Author.Tests.{not-false}
 use Rattle.sets.specs.Sets.{bit}
 use Rattle.sets.proofs.Bools.{not-so}
 use Rattle.hierarchy.specs.Tables.{Tables, Shaped, kind}
-use Rattle.hierarchy.specs.Words.{Loops, Managed, Sound, Way.edge}
+use Rattle.hierarchy.specs.Words.{Loops, Managed, Sound}
+use Rattle.hierarchy.specs.Words.{Way.edge}
 use Rattle.hierarchy.specs.First.{First}
 use Rattle.hierarchy.proofs.FirstLaws.{first-unique, none}
 use Rattle.board.specs.Boards.{tablesOf, SoundBoard}
 use Rattle.board.specs.Rights.{foundingRights, RightsFit}
 use Rattle.board.specs.declared.Board.{Board}
 use Rattle.board.proofs.Rules.{Passed, first-done, first-next}
-use Rattle.boardfile.specs.Files.{from, edge?, edgeBytes, kindAt, founding?, fileOf, stretchOf, startOf}
-use Rattle.boardfile.specs.Faults.{EndsHH, EndsHR, BadFrame, BadRecord}
-use Rattle.boardfile.specs.Parts.{tailLength, PutAnswer}
-use Rattle.boardfile.specs.Answers.{IsFile, refusals, ReadAnswer, writeRefusals, WriteAnswer, NoRoom.past-end}
-use Rattle.boardfile.proofs.Ascending.{from-short}
-use Rattle.boardfile.proofs.Bytes.{records-length}
+use Rattle.frames.specs.Frames.{EndsHH, EndsHR, BadFrame}
+use Rattle.frames.proofs.Frames.{said}
+use Rattle.writer.specs.Files.{from, edge?, edgeBytes, kindAt, founding?, fileOf, stretchOf, startOf}
+use Rattle.writer.specs.Parts.{tailLength, PutAnswer}
+use Rattle.writer.specs.Writing.{writeRefusals, WriteAnswer}
+use Rattle.writer.specs.Writing.{NoRoom.past-end}
+use Rattle.writer.proofs.Ascending.{from-short}
+use Rattle.writer.proofs.EdgeBytes.{records-length}
+use Rattle.writer.proofs.Filed.{file-length}
+use Rattle.writer.proofs.FoundingRights.{founding-only, founding-itself}
+use Rattle.writer.proofs.OneFile.{file-trailed, same-tables, same-rights}
+use Rattle.writer.proofs.InThree.{stretch-is}
+use Rattle.boardfile.specs.Faults.{BadRecord}
+use Rattle.boardfile.specs.Answers.{IsFile, refusals, ReadAnswer}
 use Rattle.boardfile.proofs.Faultless.{Tidy, good-frame, good-records}
-use Rattle.boardfile.proofs.Filed.{file-length}
-use Rattle.boardfile.proofs.FoundingRights.{founding-only, founding-itself}
-use Rattle.boardfile.proofs.Frames.{said}
 use Rattle.boardfile.proofs.Fullest.{edges-few}
-use Rattle.boardfile.proofs.OneFile.{file-trailed, same-tables, same-rights, named-by, one-board}
+use Rattle.boardfile.proofs.OneBoard.{named-by, one-board}
 use Rattle.boardfile.proofs.Readings.{kind-known}
-use Rattle.boardfile.proofs.InThree.{stretch-is}
 
 -- ---- a file names the tables and the rights of its board
 
@@ -146,11 +151,6 @@ faultless-file {board = board} r frame record′ = ⊎-elim
     (r .numbered)
 
 -- ---- what is written
-
--- of a sound board, what `put` answers `write` may answer
-pub put-writes : {b : Board} {entry exit : List ℕ} {at number len : ℕ} → SoundBoard b → PutAnswer (fileOf (tablesOf b) (b .rights)) entry at exit number len → WriteAnswer b entry at exit number len
-unfolding First
-put-writes sound p = record { numbered = inr (λ n. n sound, p .numbered); done = p .done; refused = p .refused }
 
 -- the bytes at the place, so many as the writer says, are the file of the board; reading them gives the board back
 pub written-file : {b : Board} {entry exit : List ℕ} {at len : ℕ} → WriteAnswer b entry at exit 0 len → take len (drop at exit) ≡ fileOf (tablesOf b) (b .rights)

@@ -1,28 +1,30 @@
 -- What the functions on a board file answer: the refusals of each in the order they are tried, and what goes with done and with a refusal.
 use mathlib.Core.Path.{_≡_}
-use mathlib.Core.Bool.{Bool, false, cond}
+use mathlib.Core.Bool.{Bool, false}
 use mathlib.Core.Logic.{_⊎_, _≢_}
 use mathlib.Core.List.{List, [], _∷_, _++_}
 use Prim.Native.Nat.{ℕ, _+_, _-_, _<_}
-use lib.Dec.{eqb}
-use lib.ListN.{length, take, drop}
 use Rattle.sets.specs.Sets.{_isIn_}
 use Rattle.hierarchy.specs.Tables.{Tables, Shaped}
 use Rattle.hierarchy.specs.Words.{Derives, Scope, OutOfScope, Climb, Loops, Managed}
 use Rattle.hierarchy.specs.First.{First}
 use Rattle.board.specs.Rights.{RightsFit}
 use Rattle.board.specs.Boards.{tablesOf, foundingBoard, SoundBoard}
-use Rattle.board.specs.Commands.{plain, Decided}
-use Rattle.board.specs.Questions.{Answered, Says, Tells, Manages}
+use Rattle.board.specs.Answers.{plain}
+use Rattle.board.specs.Asked.{Answered}
 use Rattle.board.specs.declared.Board.{Board}
 use Rattle.board.specs.declared.Command.{Command}
-use Rattle.board.specs.declared.commands.Answer.{Answer}
-use Rattle.board.specs.declared.questions.Manager.{Manager}
-use Rattle.board.specs.declared.questions.Manager.the-variants.{Nobody}
-use Rattle.boardfile.specs.declared.commands.Place.{Place}
-use Rattle.boardfile.specs.declared.commands.Place.the-variants.{Asked, File, Writing}
-use Rattle.boardfile.specs.Files.{fileOf, stretchOf, startOf}
-use Rattle.boardfile.specs.Faults.{BadFrame, BadRecord}
+use Rattle.board.specs.declared.answers.Answer.{Answer}
+use Rattle.board.specs.declared.kept.Manager.{Manager}
+use Rattle.board.specs.declared.kept.Manager.the-variants.{Nobody}
+use Rattle.questions.specs.Questions.{Says, Tells, Manages}
+use Rattle.commands.specs.Commands.{Decided}
+use Rattle.frames.specs.Frames.{BadFrame}
+use Rattle.writer.specs.Files.{fileOf, stretchOf}
+use Rattle.writer.specs.Writing.{startOrNone, Stands, WriteAnswer}
+use Rattle.boardfile.specs.Faults.{BadRecord}
+use Rattle.boardfile.specs.declared.change.Place.{Place}
+use Rattle.boardfile.specs.declared.change.Place.the-variants.{Asked, File, Writing}
 
 -- f is the file of the board of these tables, whose roles are 0 to 63, and of these rights
 pub record IsFile (f : List ℕ) (t : Tables) (rights : List ℕ) : Type 0 where
@@ -83,16 +85,6 @@ ManagerOnFile f r = Answered (askedRefusals f r r) (OfFile f (λ b. Manages b r)
 abbrev pub StepsOnFile : List ℕ → ℕ → ℕ → ℕ → Type 0
 StepsOnFile f r = Answered (askedRefusals f r r) (OfFile f (λ b. Climb (tablesOf b) r)) 0
 
--- ---- the edge records of one senior, with the same refusals
-
--- A senior without an edge has no place to name, and its start is 0.
-unfoldable pub startOrNone : Tables → ℕ → ℕ
-startOrNone t role = cond (eqb (length (stretchOf t role)) 0) 0 (startOf t role)
-
--- where they begin in the file, and how many bytes they are
-abbrev pub Stands : ℕ → Tables → ℕ × ℕ → Type 0
-Stands role t place = (place .0 ≡ startOrNone t role) × (place .1 ≡ length (stretchOf t role))
-
 abbrev pub BoundsAnswer : List ℕ → ℕ → ℕ → ℕ → ℕ → Type 0
 BoundsAnswer f role number start len = Answered (askedRefusals f role role) (OfFile f (λ b. Stands role (tablesOf b))) (0, 0) number (start, len)
 
@@ -102,36 +94,6 @@ pub record StretchAnswer (f : List ℕ) (role : ℕ) (part : List ℕ) (start : 
   pub numbered : First (askedRefusals f role role) number
   pub done : number ≡ 0 → TablesIn f (λ t. (part ≡ stretchOf t role) × (start ≡ startOrNone t role))
   pub refused : number ≢ 0 → (part ≡ []) × (start ≡ 0)
-
--- They are a part of the caller's own file: `part-at` and `file-at` are where the two lie in memory, a block and a place in it.
-abbrev pub StretchOf : List ℕ → ℕ × ℕ → ℕ → List ℕ → ℕ × ℕ → Type 0
-StretchOf f file-at role part part-at =
-    (start : ℕ) × StretchAnswer f role part start × (part-at .0 ≡ file-at .0) × (part-at .1 ≡ file-at .1 + start)
-
--- ---- writing to a place of a buffer
-
--- row 12: the place is past the end, or there are too few bytes from it on
-pub data NoRoom (file : List ℕ) (entry : List ℕ) (at : ℕ) : Type 0 where
-  past-end : length entry < at → NoRoom file entry at
-  too-few : length entry - at < length file → NoRoom file entry at
-
--- the file stands there, and the bytes before it and after it stay
-abbrev pub Placed : List ℕ → List ℕ → ℕ → List ℕ → ℕ → Type 0
-Placed file entry at exit len = (len ≡ length file) × (exit ≡ take at entry ++ file ++ drop (at + length file) entry)
-
--- no byte is changed
-abbrev pub Unplaced : List ℕ → List ℕ → ℕ → Type 0
-Unplaced entry exit len = (len ≡ 0) × (exit ≡ entry)
-
--- 1, then 12
-abbrev pub writeRefusals : Board → List ℕ → ℕ → List (ℕ × Type 0)
-writeRefusals b entry at = (1, (SoundBoard b → ⊥)) ∷ (12, NoRoom (fileOf (tablesOf b) (b .rights)) entry at) ∷ []
-
--- done puts the file there, a refusal leaves every byte, and the length is 0
-pub record WriteAnswer (b : Board) (entry : List ℕ) (at : ℕ) (exit : List ℕ) (number len : ℕ) : Type 0 where
-  pub numbered : First (writeRefusals b entry at) number
-  pub done : number ≡ 0 → Placed (fileOf (tablesOf b) (b .rights)) entry at exit len
-  pub refused : number ≢ 0 → Unplaced entry exit len
 
 -- ---- a command on the board in a file: read, decided, and written to the start of a buffer
 

@@ -1,6 +1,5 @@
--- The board file, as document 01 has it.
-pub mod Files
+-- Reading a board file, as document 01 has it, and what is asked of one.
 pub mod Faults
 pub mod Answers
-pub mod Reached
 pub mod Parts
+pub mod Stretches

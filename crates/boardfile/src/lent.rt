@@ -1,10 +1,7 @@
-// Reading and writing for a caller whose board is lent part by part: a refusal leaves the parts, and nothing is copied on the way.
+// Reading for a caller whose board is lent part by part: a refusal leaves the parts.
 ghost use Rattle.board.specs.Boards.{boardOf};
-ghost use Rattle.boardfile.specs.Answers.{ReadInto, WriteAnswer};
-use crate::Written;
+ghost use Rattle.boardfile.specs.Answers.{ReadInto};
 use crate::opening::open;
-use crate::writer::put;
-use board::checks::sound_of;
 
 // The board of a file, into these parts.
 pub fn read_into(
@@ -45,24 +42,4 @@ pub fn read_into(
     *manager = managers;
     *rights = held;
     0
-}
-
-// The file of the board of these parts, into a buffer, from a place on.
-pub fn write_of<'t>(
-    live: u64,
-    i: &'t [u64; 64],
-    a: &'t [u64; 64],
-    derives: &'t [u64; 64],
-    derivers: &'t [u64; 64],
-    manager: &'t [u8; 64],
-    rights: &'t [u8; 64],
-    out: &mut [u8],
-    at: usize,
-) -> Written
-    ensures { λ r. ⌜ WriteAnswer (boardOf live (now (i .entry)) (now (a .entry)) (now (derives .entry)) (now (derivers .entry)) (now (manager .entry)) (now (rights .entry))) (now (out .entry)) at (now (out .exit)) (r .number) (r .len) ⌝ }
-{
-    if !sound_of(live, i, a, derives, derivers, manager, rights) {
-        return Written { number: 1, len: 0 };
-    }
-    put(live, i, a, rights, out, at)
 }

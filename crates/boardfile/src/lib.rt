@@ -1,28 +1,19 @@
-// The board file: one for each sound board, and every other file refused.
+// A board file read, and what is asked of one: the questions, the records of one senior, a command. Knows the frame and the writer, and all
+// of the board below; every file that no sound board has is refused. `writer` says what the bytes are.
 //
-// In order: a byte for each live role, ascending; three bytes for each edge, senior, junior and kind, ascending by senior and then by
-// junior; a trailer of six bytes: how far before the trailer the edge records begin (0 where there are none), how far before it the
-// role bytes begin, each in two bytes, the low one first, and HH. That is the file of a board where role 0 holds all rights and nobody
-// else any. Every other board has a rights byte for each live role, ascending, before the trailer, and the trailer has eight bytes: how far
-// before it the rights bytes begin comes first, and it ends in HR.
-//
-// Each function on a file opens it first, which works out what its board keeps; what follows reads it there, so that a board is weighed
-// once.
-pub mod commands;
-mod frame;
+// Each function on a file opens it first, which works out what its board keeps; what follows reads it there, so that soundness is worked
+// out once.
+pub mod ask;
+pub mod change;
 pub mod lent;
 mod opening;
-pub mod questions;
 mod reader;
 mod rights;
 pub mod stretches;
-mod writer;
 
-ghost use Rattle.boardfile.specs.Answers.{ReadAnswer, WriteAnswer};
+ghost use Rattle.boardfile.specs.Answers.{ReadAnswer};
 use board::Board;
-use lent::write_of;
 use opening::open;
-pub use writer::edge_count;
 
 pub struct Reading {
     pub number: u8,
@@ -64,26 +55,4 @@ pub fn read(file: &[u8]) -> Reading
         rights,
     };
     Reading { number: 0, board }
-}
-
-pub struct Written {
-    pub number: u8,
-    pub len: usize,
-}
-
-// The file of a board, into a buffer, from a place on.
-pub fn write(b: Board, out: &mut [u8], at: usize) -> Written
-    ensures { λ r. ⌜ WriteAnswer b (now (out .entry)) at (now (out .exit)) (r .number) (r .len) ⌝ }
-{
-    write_of(
-        b.live,
-        &b.i,
-        &b.a,
-        &b.derives,
-        &b.derivers,
-        &b.manager,
-        &b.rights,
-        out,
-        at,
-    )
 }

@@ -1,12 +1,12 @@
 // A file opened: its board in parts, with all that it keeps.
 ghost use mathlib.Core.Path.{_≡_};
 ghost use Rattle.boardfile.specs.Parts.{Opening};
-use crate::frame::Framed;
-use crate::frame::frame;
 use crate::reader::Roles;
 use crate::reader::edges;
 use crate::reader::listed;
 use crate::rights::holdings;
+use frames::Framed;
+use frames::frame;
 use hierarchy::working::work_out;
 
 // The number, and the live roles of the board; its tables and what it keeps go to what is lent.

@@ -5,8 +5,9 @@ ghost use mathlib.Core.Bool.{_&&_, _||_};
 ghost use Prim.Native.Nat.{ℕ, _+_, _≤_};
 ghost use lib.ListN.{length, replicate};
 ghost use Rattle.sets.specs.Sets.{bit, same?};
-ghost use Rattle.boardfile.specs.Faults.{roleCount};
-ghost use Rattle.boardfile.specs.Parts.{Listing, Spelt, Judged, Announced, GoodRoles, Entering};
+ghost use Rattle.frames.specs.Frames.{roleCount};
+ghost use Rattle.boardfile.specs.Parts.{Listing, Spelt, Judged, GoodRoles, Entering};
+ghost use Rattle.frames.specs.Framing.{Announced};
 use sets::has;
 use sets::with;
 

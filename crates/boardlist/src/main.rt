@@ -2,9 +2,9 @@
 // manager or '-', and its steps to role 0. Of a file that is refused it says only so, with the number. Reading the file works all of this
 // out once; the lines are read off the board.
 use board::Board;
+use board::kept::Manager;
 use board::kept::line_manager;
 use board::kept::steps;
-use board::questions::Manager;
 use boardfile::lent::read_into;
 use libc::STDIN_FILENO;
 use libc::STDOUT_FILENO;
@@ -98,7 +98,7 @@ fn main() {
         manager,
         rights,
     };
-    number(boardfile::edge_count(board) as u64);
+    number(writer::edge_count(board) as u64);
     say(b"\n");
     list_all(live, &manager);
 }

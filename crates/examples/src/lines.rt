@@ -2,13 +2,11 @@
 ghost use mathlib.Core.Path.{_≡_};
 ghost use mathlib.Core.Bool.{true};
 ghost use mathlib.Core.Logic.{_↔_};
-use crate::boards;
 use board::Board;
 use board::Command;
 use board::checks;
-use board::commands::step;
-use board::questions;
-use board::questions::Manager;
+use board::kept::Manager;
+use commands::step;
 use hierarchy::working::work_out;
 use runs::run_by_value;
 use sets::has;
@@ -237,7 +235,7 @@ pub(crate) fn add_role(
     a_seniors: u64,
     i_seniors: u64,
 ) -> Board {
-    let c = boards::add_role(a, role, a_seniors, i_seniors);
+    let c = exampleboards::add_role(a, role, a_seniors, i_seniors);
     adds(name, c);
     run(b, c)
 }
@@ -256,7 +254,7 @@ pub(crate) fn remove_role(name: &[u8], b: Board, a: u32, role: u32) -> Board {
     actor(name, a);
     text(b" removes role ");
     number(role);
-    run(b, boards::remove_role(a, role))
+    run(b, exampleboards::remove_role(a, role))
 }
 
 // Gives rights to a role or takes them, as the command's code says.

@@ -1,22 +1,21 @@
 // Runs every example of document 01, and those of the requests, through the board's own functions and writes a line for each: what was asked, then what came
 // back. `stdout` has the same lines, worked out by hand from the documents.
 use board::Command;
-use boards::add_between;
-use boards::add_edge;
-use boards::add_role;
-use boards::change_edge;
-use boards::command;
-use boards::e;
-use boards::f;
-use boards::give_rights;
-use boards::l;
-use boards::p;
-use boards::remove_edge;
-use boards::remove_role;
-use boards::take_rights;
-use boards::w;
+use exampleboards::add_between;
+use exampleboards::add_edge;
+use exampleboards::add_role;
+use exampleboards::change_edge;
+use exampleboards::command;
+use exampleboards::e;
+use exampleboards::f;
+use exampleboards::give_rights;
+use exampleboards::l;
+use exampleboards::p;
+use exampleboards::remove_edge;
+use exampleboards::remove_role;
+use exampleboards::take_rights;
+use exampleboards::w;
 
-mod boards;
 mod lines;
 
 // P: who derives whom, scopes, line managers, steps.

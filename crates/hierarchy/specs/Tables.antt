@@ -25,6 +25,11 @@ pub record IsTable (t : List ℕ) : Type 0 where
   pub rows : length t ≡ 64
   pub fits : (x : ℕ) → row t x < 2 ^ 64
 
+-- 64 bytes, as the type says of a row by value
+pub record AreBytes (t : List ℕ) : Type 0 where
+  pub rows : length t ≡ 64
+  pub fits : (x : ℕ) → row t x < 256
+
 abbrev pub Live : Tables → ℕ → Type 0
 Live t x = x isIn t .live
 

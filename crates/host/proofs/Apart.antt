@@ -2,7 +2,7 @@
 use mathlib.Core.Path.{_≡_}
 use Prim.Native.Nat.{ℕ, _+_, _*_, _/_, _%_, _<_}
 use native.Mathlib.Omega.{arith}
-use Rattle.runs.specs.Packing.{answer, reason}
+use Rattle.answers.specs.Packing.{answer, reason}
 
 module _ (number place value who cause way : ℕ) (n : number < 256) (p : place < 256) (v : value < 65536) (o : who < 256) (c : cause < 256) (w : way < 256) where
   -- one without a reason is one with 0, 0 and 0

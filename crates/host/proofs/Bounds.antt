@@ -13,9 +13,10 @@ use Rattle.hierarchy.proofs.Theorems.{climb-short}
 use Rattle.board.specs.Boards.{tablesOf}
 use Rattle.board.specs.declared.Board.{Board}
 use Rattle.board.proofs.Rules.{first-done}
-use Rattle.boardfile.specs.Answers.{ScopeOnFile, StepsOnFile, writeRefusals, WriteAnswer}
+use Rattle.answers.specs.Packing.{answer}
+use Rattle.writer.specs.Writing.{writeRefusals, WriteAnswer}
+use Rattle.boardfile.specs.Answers.{ScopeOnFile, StepsOnFile}
 use Rattle.boardfile.proofs.Theorems.{sound-length}
-use Rattle.runs.specs.Packing.{answer}
 use Rattle.host.specs.Answers.{placeOf}
 
 -- a scope has at most 64 roles: they are live

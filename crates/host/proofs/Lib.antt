@@ -1,5 +1,5 @@
--- Settled (two outcomes that a contract allows coincide), Apart (an answer can be taken apart again), and what the proofs of the
+-- Unique (two outcomes that a contract allows coincide), Apart (an answer can be taken apart again), and what the proofs of the
 -- functions stand on.
-pub mod Settled
+pub mod Unique
 pub mod Apart
 pub mod Bounds

@@ -8,17 +8,18 @@ use Prim.Native.Nat.{ℕ, _+_, _*_}
 use lib.Dec.{eqb}
 use Rattle.sets.specs.Sets.{num}
 use Rattle.hierarchy.specs.First.{First}
-use Rattle.board.specs.Commands.{Decided}
 use Rattle.board.specs.declared.Board.{Board}
 use Rattle.board.specs.declared.Command.{Command}
-use Rattle.board.specs.declared.commands.Answer.{Answer}
-use Rattle.board.specs.declared.questions.Manager.{Manager}
-use Rattle.board.specs.declared.questions.Manager.the-variants.{Role, Nobody}
-use Rattle.runs.specs.Packing.{answer, reason, answerOf}
+use Rattle.board.specs.declared.answers.Answer.{Answer}
+use Rattle.board.specs.declared.kept.Manager.{Manager}
+use Rattle.board.specs.declared.kept.Manager.the-variants.{Role, Nobody}
+use Rattle.commands.specs.Commands.{Decided}
+use Rattle.answers.specs.Packing.{answer, reason, answerOf}
 use Rattle.runs.specs.Runs.{RunAnswer}
-use Rattle.boardfile.specs.declared.commands.Place.{Place}
-use Rattle.boardfile.specs.declared.commands.Place.the-variants.{Asked, File, Writing}
-use Rattle.boardfile.specs.Answers.{refusals, ReadInto, DerivesOnFile, ScopeOnFile, ManagerOnFile, StepsOnFile, BoundsAnswer, WriteAnswer, CommandAnswer}
+use Rattle.writer.specs.Writing.{WriteAnswer}
+use Rattle.boardfile.specs.Answers.{refusals, ReadInto, DerivesOnFile, ScopeOnFile, ManagerOnFile, StepsOnFile, BoundsAnswer, CommandAnswer}
+use Rattle.boardfile.specs.declared.change.Place.{Place}
+use Rattle.boardfile.specs.declared.change.Place.the-variants.{Asked, File, Writing}
 
 -- The places: 0 is the command or the question, and every answer that is done; 1 the file handed in; 2 the writing.
 abbrev pub placeNumber : Place → ℕ

@@ -3,7 +3,7 @@ use mathlib.Core.Path.{_≡_}
 use mathlib.Core.List.{List}
 use Prim.Native.Nat.{ℕ, _+_, _*_}
 use Rattle.board.specs.declared.Board.{Board}
-use Rattle.runs.specs.Packing.{answer}
+use Rattle.answers.specs.Packing.{answer}
 use Rattle.jobs.specs.Lists.{Jobs}
 use Rattle.jobs.specs.Answers.{StartAnswer, ClaimAnswer, ReleaseAnswer, LookAnswer}
 use Rattle.jobs.specs.declared.State.{State}

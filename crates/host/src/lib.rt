@@ -2,36 +2,36 @@
 //
 // What is decided is decided by `board`, `runs` and `boardfile`; here an answer is packed into one number. Nothing is asked of a caller but that
 // the pointers are good.
-mod answers;
 mod lists;
+mod values;
 
 ghost use mathlib.Core.Path.{_≡_};
 ghost use Rattle.board.specs.Boards.{boardOf, foundingBoard};
 ghost use Rattle.host.specs.Answers.{Applied, RunPacked, Checked, DerivesPacked, ScopePacked, ManagerPacked, StepsPacked, StretchPacked, Commanded, ReadPacked, WritePacked};
-use answers::manager_value;
-use answers::one_if;
-use answers::place_number;
-use answers::place_of;
-use answers::place_of_writing;
-use answers::run_packed;
-use answers::scope_value;
+use answers::answered;
+use answers::answered_at;
+use answers::packed;
+use answers::reason;
 use board::Board;
 use board::Command;
-use board::lent::apply_in_place;
-use boardfile::commands::command;
+use boardfile::ask::check;
+use boardfile::ask::derives;
+use boardfile::ask::line_manager;
+use boardfile::ask::scope;
+use boardfile::ask::steps;
+use boardfile::change::command;
 use boardfile::lent::read_into;
-use boardfile::lent::write_of;
-use boardfile::questions::check;
-use boardfile::questions::derives;
-use boardfile::questions::line_manager;
-use boardfile::questions::scope;
-use boardfile::questions::steps;
 use boardfile::stretches::bounds;
-use runs::packing::answered;
-use runs::packing::answered_at;
-use runs::packing::packed;
-use runs::packing::reason;
+use commands::lent::apply_in_place;
 use runs::run;
+use values::manager_value;
+use values::one_if;
+use values::place_number;
+use values::place_of;
+use values::place_of_writing;
+use values::run_packed;
+use values::scope_value;
+use writer::write_of;
 
 // The founding board, over the caller's own.
 #[no_mangle]

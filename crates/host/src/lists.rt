@@ -4,12 +4,12 @@ ghost use mathlib.Core.Path.{_≡_};
 ghost use Rattle.board.specs.Boards.{boardOf};
 ghost use Rattle.jobs.specs.Lists.{jobsOf};
 ghost use Rattle.host.specs.Jobs.{StartPacked, ClaimPacked, ReleasePacked, JobPacked, oneIfHeld, memberOr0};
+use answers::packed;
 use jobs::State;
 use jobs::claim_of;
 use jobs::look;
 use jobs::release_of;
 use jobs::start;
-use runs::packing::packed;
 
 // A new list, all open.
 #[no_mangle]

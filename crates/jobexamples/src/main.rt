@@ -2,7 +2,7 @@
 // `stdout` has the same lines, worked out by hand from the documents.
 use board::Board;
 use board::Command;
-use board::commands::step;
+use commands::step;
 
 mod lines;
 

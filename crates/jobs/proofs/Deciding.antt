@@ -14,9 +14,9 @@ use Rattle.hierarchy.specs.Words.{Derives, Scope}
 use Rattle.hierarchy.specs.First.{First}
 use Rattle.hierarchy.proofs.FirstLaws.{hit, pass, none}
 use Rattle.board.specs.Boards.{tablesOf}
-use Rattle.board.specs.Questions.{refusals, DerivesAnswer, ScopeAnswer}
 use Rattle.board.specs.declared.Board.{Board}
 use Rattle.board.proofs.Rules.{first-done, first-refused, first-next}
+use Rattle.questions.specs.Questions.{refusals, DerivesAnswer, ScopeAnswer}
 use Rattle.jobs.specs.Lists.{Jobs, jobsOf, roleAt, roleOf, Open, Held}
 use Rattle.jobs.specs.Answers.{Fits, StartAnswer, onBoard, Settles, ClaimAnswer, ReleaseAnswer}
 

@@ -7,8 +7,9 @@ use lib.ListN.{length, getD, replicate}
 use Rattle.hierarchy.specs.Words.{Derives, Scope}
 use Rattle.hierarchy.specs.First.{First}
 use Rattle.board.specs.Boards.{tablesOf}
-use Rattle.board.specs.Questions.{refusals, Answered}
+use Rattle.board.specs.Asked.{Answered}
 use Rattle.board.specs.declared.Board.{Board}
+use Rattle.questions.specs.Questions.{refusals}
 use Rattle.jobs.specs.Lists.{Jobs, jobsOf, roleOf, Open, Held, HeldBy, taken, freed}
 use Rattle.jobs.specs.declared.State.{State}
 use Rattle.jobs.specs.declared.State.the-variants.{IsOpen, HeldBy as IsHeldBy}

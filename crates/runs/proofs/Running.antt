@@ -9,13 +9,15 @@ use lib.ListN.{length, getD, set, take, drop, replicate, length-map, length-appe
 use lib.Seq.{length-take-le, take-suc, drop-cons, drop-append-seam, getD-append-seam, set-append-seam}
 use Rattle.hierarchy.proofs.FirstLaws.{first-unique, hit, pass, none}
 use Rattle.board.specs.Boards.{SoundBoard}
-use Rattle.board.specs.Commands.{plain, refusals, Decided}
+use Rattle.board.specs.Answers.{plain}
 use Rattle.board.specs.declared.Board.{Board}
 use Rattle.board.specs.declared.Command.{Command}
-use Rattle.board.specs.declared.commands.Answer.{Answer}
-use Rattle.board.proofs.Settled.{decided-unique}
-use Rattle.runs.specs.Packing.{answerOf}
-use Rattle.runs.specs.Runs.{Ran, Ran.over, Ran.given, rowAfter, runRefusals, Went, RanBy, InParts, InItsPlace}
+use Rattle.board.specs.declared.answers.Answer.{Answer}
+use Rattle.commands.specs.Commands.{refusals, Decided}
+use Rattle.commands.proofs.Unique.{decided-unique}
+use Rattle.answers.specs.Packing.{answerOf}
+use Rattle.runs.specs.Runs.{Ran, rowAfter, runRefusals, Went, RanBy, InParts, InItsPlace}
+use Rattle.runs.specs.Runs.{Ran.over, Ran.given}
 
 -- ---- one outcome
 

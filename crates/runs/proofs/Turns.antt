@@ -7,11 +7,11 @@ use mathlib.Core.List.{List}
 use lib.ListN.{length, getD, set, take, replicate, length-set, length-replicate}
 use lib.Seq.{take-all}
 use lib.WfN.{Nat·lt-wfRel}
-use Rattle.board.specs.Commands.{Decided}
 use Rattle.board.specs.declared.Board.{Board}
 use Rattle.board.specs.declared.Command.{Command}
-use Rattle.board.specs.declared.commands.Answer.{Answer}
-use Rattle.runs.specs.Packing.{answerOf}
+use Rattle.board.specs.declared.answers.Answer.{Answer}
+use Rattle.commands.specs.Commands.{Decided}
+use Rattle.answers.specs.Packing.{answerOf}
 use Rattle.runs.specs.Runs.{Went, RunAnswer, EveningAnswer}
 use Rattle.runs.proofs.Running.{begins, goes-on, too-short, all-given}
 

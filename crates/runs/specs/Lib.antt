@@ -1,3 +1,2 @@
 -- A run of commands, as request 6 has it, and its row of answers.
-pub mod Packing
 pub mod Runs

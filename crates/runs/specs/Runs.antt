@@ -5,11 +5,11 @@ use mathlib.Core.List.{List, [], _∷_, _++_, map}
 use Prim.Native.Nat.{ℕ, _<_}
 use lib.ListN.{length, getD, take, drop, replicate}
 use Rattle.hierarchy.specs.First.{First}
-use Rattle.board.specs.Commands.{Decided}
 use Rattle.board.specs.declared.Board.{Board}
 use Rattle.board.specs.declared.Command.{Command}
-use Rattle.board.specs.declared.commands.Answer.{Answer}
-use Rattle.runs.specs.Packing.{answerOf}
+use Rattle.board.specs.declared.answers.Answer.{Answer}
+use Rattle.commands.specs.Commands.{Decided}
+use Rattle.answers.specs.Packing.{answerOf}
 
 -- `Ran b commands answers last`: the commands are given one by one, the first to b and each other to the board that the one before it left,
 -- done or refused; these are their answers, and this is the last board.

@@ -1,17 +1,16 @@
-// An evening's changes in one go: a run of commands handed over together, and a row of answers.
+// An evening's changes in one go: a run of commands handed over together, and a row of answers. Knows the commands, and nothing of how one is
+// decided.
 //
 // Each command is given, in order, to the call that decides one and makes it; a refused one doesn't end the run. A command's answer, in one
 // number, goes into its place of the row. Where the row is shorter than the run no command is tried.
 ghost use mathlib.Core.Path.{_≡_};
 ghost use lib.ListN.{replicate};
 ghost use Rattle.runs.specs.Runs.{RunAnswer, EveningAnswer};
+use answers::answered;
 use board::Board;
 use board::Command;
-use board::commands::step;
-use board::lent::apply_in_place;
-use packing::answered;
-
-pub mod packing;
+use commands::lent::apply_in_place;
+use commands::step;
 
 // want of room for the answers
 const NO_ROOM: u8 = 12;

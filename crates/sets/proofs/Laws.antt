@@ -126,6 +126,9 @@ lowest-least (suc k) s x e = go (s % 2) refl x e (λ y. lowest-least k (s / 2) y
 pub lowest-lt : (s : ℕ) → 0 < s → s < 2 ^ 64 → trailingZeros 64 s < 64
 lowest-lt s p h = bit-lt 64 h (bit-lowest 64 s p h)
 
+pub lowest-is : (s : ℕ) → 0 < s → s < 2 ^ 64 → LowestRole s (trailingZeros 64 s)
+lowest-is s p h = record { role = lowest-lt s p h; member = bit-lowest 64 s p h; least = λ x e. lowest-least 64 s x e }
+
 pub lowest-unique : (s : ℕ) (p q : Pick) → Lowest s p → Lowest s q → p ≡ q
 lowest-unique s (Role m) (Role n) h g = ap Role (le-antisymm (h .least n (g .member)) (g .least m (h .member)))
 lowest-unique s (Role m) Nobody h g = absurd (false-no (g .none m) (h .member))

@@ -7,9 +7,9 @@ use native.Mathlib.Omega.{arith}
 use lib.Dec.{eqb, leb}
 use borrow.Author.Tests.{eqb-true, leb-true, leb-false}
 use Rattle.sets.proofs.Bools.{cond-elim}
-use Rattle.board.specs.Commands.{Malformed}
 use Rattle.board.specs.declared.Command.{Command}
-use Rattle.board.proofs.Trying.{ranged}
+use Rattle.refusals.specs.Refusals.{Malformed}
+use Rattle.refusals.proofs.Trying.{ranged}
 use Rattle.wording.specs.Texts.{wordAt}
 use Rattle.wording.specs.Names.{codeOf, kindOf, optionOf, roleOf, membersOf, rightsOf}
 use Rattle.wording.specs.Meanings.{wanting, asked, noSets, none?, setAt, withSet, setsFrom, edgeFrom, rightsFrom, byCode, meaningOf}

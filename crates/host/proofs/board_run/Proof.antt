@@ -37,20 +37,20 @@ use denote.Exit.{yes}
 use denote.Triple.Clauses.{ensured, lasts}
 use Rattle.board.specs.declared.Board.{Board}
 use Rattle.board.specs.declared.Command.{Command}
+use Rattle.answers.specs.Packing.{answer}
+use Rattle.runs.specs.Runs.{RunAnswer}
+use Rattle.runs.proofs.run.Symbol.{name as #run}
+use Rattle.host.specs.Answers.{placeOfWriting}
+use Rattle.host.proofs.values.run_packed.Symbol.{name as #packs}
+use Rattle.host.proofs.board_run.Key.{name as #board-run}
 use Rattle.board.proofs.Board as B
 use Rattle.board.proofs.Command as Cm
-use Rattle.runs.specs.Packing.{answer}
-use Rattle.runs.specs.Runs.{RunAnswer}
 use Rattle.runs.proofs.run as run′
 use Rattle.runs.proofs.run.Symbol as run-def
-use Rattle.runs.proofs.run.Symbol.{name as #run}
 use Rattle.runs.proofs.run.Met as run-thm
-use Rattle.host.specs.Answers.{placeOfWriting}
-use Rattle.host.proofs.answers.run_packed as packs
-use Rattle.host.proofs.answers.run_packed.Symbol as packs-def
-use Rattle.host.proofs.answers.run_packed.Symbol.{name as #packs}
-use Rattle.host.proofs.answers.run_packed.Met as packs-thm
-use Rattle.host.proofs.board_run.Key.{name as #board-run}
+use Rattle.host.proofs.values.run_packed as packs
+use Rattle.host.proofs.values.run_packed.Symbol as packs-def
+use Rattle.host.proofs.values.run_packed.Met as packs-thm
 use Rattle.host.proofs.board_run as board-run
 use Rattle.host.proofs.board_run.Statement as stated
 use Rattle.host.proofs.board_run.Code as code
@@ -145,7 +145,7 @@ board-run-spec 𝓤 H 𝓜 𝓖 𝓡 =
     let clauses = board-run.clauses 𝓤 H (𝓖 .A) (𝓜 .mem) (𝓡 .run) in
     let body = WpFn 𝓤 H (𝓣 .C) (𝓣 .Λ) code.function in
     let known = cited 𝓤 H (Runs 𝓤 H (𝓖 .A) (𝓜 .mem) (𝓡 .run)) 𝓜 𝓡 code.env #run run-def.routine code.calls-runs·run (run-thm.met 𝓤 H 𝓜 𝓖 𝓡) in
-    let known₁ = cited 𝓤 H (Packs 𝓤 H (𝓖 .A) (𝓜 .mem) (𝓡 .run)) 𝓜 𝓡 code.env #packs packs-def.routine code.calls-host·answers·run-packed (packs-thm.met 𝓤 H 𝓜 𝓖 𝓡) in
+    let known₁ = cited 𝓤 H (Packs 𝓤 H (𝓖 .A) (𝓜 .mem) (𝓡 .run)) 𝓜 𝓡 code.env #packs packs-def.routine code.calls-host·values·run-packed (packs-thm.met 𝓤 H 𝓜 𝓖 𝓡) in
     entered 𝓤 H (tripleOf 𝓤 H (𝓖 .A) board-run.signature (board-run.spec 𝓤 H (𝓖 .A) (𝓜 .mem) (𝓡 .run)))
     (𝓣 .C) (𝓣 .Λ) #board-run code.function (code.unfolded 𝓤 H 𝓜 𝓡)
     (walk-meets 𝓤 H (𝓖 .A) board-run.ended stayed W (

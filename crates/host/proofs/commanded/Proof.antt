@@ -1,9 +1,9 @@
 use mathlib.Core.Path.{ap, _∙_}
 use Prim.Native.Nat.{ℕ}
 use native.Mathlib.Omega.{arith}
-use Rattle.boardfile.proofs.Commanding.{command-short}
-use Rattle.runs.specs.Packing.{answerOf}
 use borrow.Author.Needs.{needs}
+use Rattle.answers.specs.Packing.{answerOf}
+use Rattle.boardfile.proofs.Commanding.{command-short}
 use Rattle.host.proofs.commanded.Statement.{statement}
 use Rattle.host.proofs.commanded.Tie as tie
 

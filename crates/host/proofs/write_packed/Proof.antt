@@ -1,9 +1,9 @@
 use mathlib.Core.Path.{ap, _∙_}
 use Prim.Native.Nat.{ℕ}
 use native.Mathlib.Omega.{arith}
-use Rattle.runs.specs.Packing.{answer}
-use Rattle.host.proofs.Bounds.{write-small}
 use borrow.Author.Needs.{needs}
+use Rattle.answers.specs.Packing.{answer}
+use Rattle.host.proofs.Bounds.{write-small}
 use Rattle.host.proofs.write_packed.Statement.{statement}
 use Rattle.host.proofs.write_packed.Tie as tie
 

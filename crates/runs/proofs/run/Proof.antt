@@ -41,7 +41,6 @@ use denote.Lend.{Held, lends-ref, ref-back}
 use denote.Index.{row, place-is, elem-out, elem-back, elem-put, opens-slice, closes-slice, looks-slice, shuts-slice}
 use denote.Signature.{plain}
 use denote.Steps.{only, owned, peeks, heard, nothing}
-use denote.Struct.Laws as LL
 use denote.Triple.Statement.{Contract, Triple}
 use denote.Triple.Call.{calls-at}
 use denote.Triple.Entry.{Args, Vals, onEntry}
@@ -50,34 +49,35 @@ use denote.Triple.Table.{entered, cited}
 use denote.Triple.Walked.{says, Stays, stay-ref, stay-slice, stay-none-slice, walkOf, goes-ref, goes-slice, goes-none-slice, ends-at, walked, walk-meets}
 use denote.Exit.{yes}
 use denote.Triple.Clauses.{ensured, lasts}
-use Rattle.board.specs.Commands.{Decided}
 use Rattle.board.specs.declared.Board.{Board}
 use Rattle.board.specs.declared.Command.{Command}
-use Rattle.board.specs.declared.commands.Answer.{Answer}
+use Rattle.board.specs.declared.answers.Answer.{Answer}
 use Rattle.board.proofs.Values.{ofCommand}
-use Rattle.board.proofs.Board as B
-use Rattle.board.proofs.Command as Cm
-use Rattle.board.proofs.Command.Laws as Cm′
-use Rattle.board.proofs.commands.Answer as An
-use Rattle.board.proofs.commands.Answer.Laws as An′
-use Rattle.board.proofs.lent.apply_in_place as apply
-use Rattle.board.proofs.lent.apply_in_place.Symbol as apply-def
-use Rattle.board.proofs.lent.apply_in_place.Symbol.{name as #apply}
-use Rattle.board.proofs.lent.apply_in_place.Met as apply-thm
-use Rattle.runs.specs.Packing.{answerOf}
+use Rattle.commands.specs.Commands.{Decided}
+use Rattle.commands.proofs.lent.apply_in_place.Symbol.{name as #apply}
+use Rattle.answers.specs.Packing.{answerOf}
+use Rattle.answers.proofs.answered.Symbol.{name as #answered}
 use Rattle.runs.specs.Runs.{RunAnswer}
 use Rattle.runs.proofs.Running.{too-short}
 use Rattle.runs.proofs.Turns.{nobody, State, Nearer, Nearer-wf, start, turned, nearer, over}
 use Rattle.runs.proofs.Branching.{guards, goes-round}
-use Rattle.runs.proofs.packing.answered as answered
-use Rattle.runs.proofs.packing.answered.Symbol as answered-def
-use Rattle.runs.proofs.packing.answered.Symbol.{name as #answered}
-use Rattle.runs.proofs.packing.answered.Met as answered-thm
 use Rattle.runs.proofs.run.Key.{name as #run}
+use Rattle.runs.proofs.run.Code.Mir.{turn-1, t-6, t-7}
+use denote.Struct.Laws as LL
+use Rattle.board.proofs.Board as B
+use Rattle.board.proofs.Command as Cm
+use Rattle.board.proofs.Command.Laws as Cm′
+use Rattle.board.proofs.answers.Answer as An
+use Rattle.board.proofs.answers.Answer.Laws as An′
+use Rattle.commands.proofs.lent.apply_in_place as apply
+use Rattle.commands.proofs.lent.apply_in_place.Symbol as apply-def
+use Rattle.commands.proofs.lent.apply_in_place.Met as apply-thm
+use Rattle.answers.proofs.answered as answered
+use Rattle.answers.proofs.answered.Symbol as answered-def
+use Rattle.answers.proofs.answered.Met as answered-thm
 use Rattle.runs.proofs.run as run′
 use Rattle.runs.proofs.run.Statement as stated
 use Rattle.runs.proofs.run.Code as code
-use Rattle.runs.proofs.run.Code.Mir.{turn-1, t-6, t-7}
 
 abbrev stayed : Stays (run′.ended .signature .params) (run′.ended .kept)
 stayed = (stay-ref (0 ∷ []) tt (plain (λ _. B.the-row)), (stay-none-slice (1 ∷ []) tt (plain (λ _. Cm.the-row)) yes, (stay-slice (2 ∷ []) tt (plain (λ _. u64)), tt)))
@@ -321,8 +321,8 @@ run-spec 𝓤 H 𝓜 𝓖 𝓡 =
     let 𝓣 = tablesOf 𝓤 H 𝓜 (tables 𝓤 H 𝓜 𝓡 code.env) in
     let clauses = run′.clauses 𝓤 H (𝓖 .A) (𝓜 .mem) (𝓡 .run) in
     let body = WpFn 𝓤 H (𝓣 .C) (𝓣 .Λ) code.function in
-    let known = cited 𝓤 H (Apply 𝓤 H (𝓖 .A) (𝓜 .mem) (𝓡 .run)) 𝓜 𝓡 code.env #apply apply-def.routine code.calls-board·lent·apply-in-place (apply-thm.met 𝓤 H 𝓜 𝓖 𝓡) in
-    let known₁ = cited 𝓤 H (Answered 𝓤 H (𝓖 .A) (𝓜 .mem) (𝓡 .run)) 𝓜 𝓡 code.env #answered answered-def.routine code.calls-runs·packing·answered (answered-thm.met 𝓤 H 𝓜 𝓖 𝓡) in
+    let known = cited 𝓤 H (Apply 𝓤 H (𝓖 .A) (𝓜 .mem) (𝓡 .run)) 𝓜 𝓡 code.env #apply apply-def.routine code.calls-commands·lent·apply-in-place (apply-thm.met 𝓤 H 𝓜 𝓖 𝓡) in
+    let known₁ = cited 𝓤 H (Answered 𝓤 H (𝓖 .A) (𝓜 .mem) (𝓡 .run)) 𝓜 𝓡 code.env #answered answered-def.routine code.calls-answers·answered (answered-thm.met 𝓤 H 𝓜 𝓖 𝓡) in
     entered 𝓤 H (tripleOf 𝓤 H (𝓖 .A) run′.signature (run′.spec 𝓤 H (𝓖 .A) (𝓜 .mem) (𝓡 .run)))
     (𝓣 .C) (𝓣 .Λ) #run code.function (code.unfolded 𝓤 H 𝓜 𝓡)
     (walk-meets 𝓤 H (𝓖 .A) run′.ended stayed W

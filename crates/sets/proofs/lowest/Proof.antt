@@ -1,7 +1,7 @@
 use native.Mathlib.Omega.{arith}
 use Prim.Native.Nat.{ℕ}
 use mathlib.Core.Path.{ap, _∙_}
-use Rattle.sets.proofs.Laws.{lowest-lt, bit-lowest, lowest-least}
+use Rattle.sets.proofs.Laws.{lowest-lt, lowest-is}
 use Rattle.sets.proofs.Digits.{bit-zero}
 use Rattle.sets.specs.Sets.{bit}
 use Rattle.sets.proofs.lowest.Statement.{statement}
@@ -14,11 +14,7 @@ cast-t4 : tie.Need-cast-t4
 cast-t4 c = omega (arith, lowest-lt (c .before .args .s) (omega arith) (c .before .fits .s .fits))
 
 returns-2 : tie.Need-returns-2
-returns-2 c = record {
-  role = lowest-lt (c .before .args .s) (omega arith) (c .before .fits .s .fits);
-  member = bit-lowest 64 (c .before .args .s) (omega arith) (c .before .fits .s .fits);
-  least = λ x e. lowest-least 64 (c .before .args .s) x e;
-}
+returns-2 c = lowest-is (c .before .args .s) (omega arith) (c .before .fits .s .fits)
 
 pub lowest-spec : {M : Type 1} → statement M
 lowest-spec = tie.close (tie.spec returns cast-t4 returns-2)

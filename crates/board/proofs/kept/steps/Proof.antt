@@ -1,8 +1,8 @@
 use mathlib.Core.Path.{sym, _∙_}
 use native.Mathlib.Omega.{arith}
 use Prim.Native.Nat.{_-_, _≤_}
-use Rattle.board.proofs.Reading.{Climbing, climb-start, climb-arrived, climb-turn, climb-none, climb-stopped, role-of, nobody-of}
 use borrow.Author.Needs.{needs}
+use Rattle.board.proofs.Reading.{Climbing, climb-start, climb-arrived, climb-turn, climb-none, climb-stopped, role-of, nobody-of}
 use Rattle.board.proofs.kept.steps.Statement.{statement}
 use Rattle.board.proofs.kept.steps.Tie as tie
 
@@ -32,7 +32,7 @@ enum-told c = search needs
 
 returns-2 : tie.Need-returns-2 Inv-loop μ-loop
 returns-2 c =
-    climb-none (c .before .before .before .before .before .loop .inv .1) (omega arith) (c .before .before .before .if1 .left) (c .before .before .before .before .before .before .whole-row .ensures)
+    climb-none (c .before .before .before .before .before .loop .inv .1) (omega arith) (c .before .before .before .if1 .left) (c .before .before .before .before .before .before .whole-row .ensures .rows)
     (nobody-of _ (sym (c .before .before .line-manager .ensures) ∙ c .enum-told .given .1))
 
 cast-x : tie.Need-cast-x Inv-loop μ-loop

@@ -8,7 +8,7 @@ use borrow.Author.Tests.{not-true, not-false}
 use borrow.Author.Needs.{needs}
 use Rattle.sets.proofs.Bools.{true-or-false, false-no}
 use Rattle.board.proofs.Looking.{fails}
-use Rattle.board.proofs.Using.{FitsBelow, all-fit}
+use Rattle.board.proofs.Fitting.{FitsBelow, all-fit}
 use Rattle.board.proofs.rights.rightful.Statement.{statement}
 use Rattle.board.proofs.rights.rightful.Tie as tie
 
@@ -18,8 +18,8 @@ Inv-loop live rights x₀ x = (x ≤ 64) × FitsBelow live rights x
 abbrev μ-loop : tie.MeasureT-loop
 μ-loop live rights x₀ x = 64 - x
 
-whole-rights-requires : tie.Need-whole-rights-requires Inv-loop μ-loop
-whole-rights-requires c κs = search needs
+whole-row-requires : tie.Need-whole-row-requires Inv-loop μ-loop
+whole-row-requires c κs = search needs
 
 loop-holds : tie.Need-loop-holds Inv-loop μ-loop
 loop-holds c = search needs
@@ -48,7 +48,7 @@ loop-again c = (
 )
 
 returns-2 : tie.Need-returns-2 Inv-loop μ-loop
-returns-2 c = (λ _. all-fit (c .before .before .whole-rights .ensures .rows) (omega arith) (c .before .loop .inv .1), λ _. refl)
+returns-2 c = (λ _. all-fit (c .before .before .whole-row .ensures .rows) (omega arith) (c .before .loop .inv .1), λ _. refl)
 
 pub rightful-spec : {M : Type 1} → statement M
 rightful-spec =
@@ -56,7 +56,7 @@ rightful-spec =
     (tie.spec
     Inv-loop
     μ-loop
-    whole-rights-requires
+    whole-row-requires
     loop-holds
     element-copy-out-held
     may-hold-requires

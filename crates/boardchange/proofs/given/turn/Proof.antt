@@ -1,6 +1,6 @@
 use mathlib.Core.Path.{sym, _∙_}
-use Rattle.boardchange.proofs.Giving.{gave-one, gave-none, by-meaning}
 use borrow.Author.Needs.{needs}
+use Rattle.boardchange.proofs.Giving.{gave-one, gave-none, by-meaning}
 use Rattle.boardchange.proofs.given.turn.Statement.{statement}
 use Rattle.boardchange.proofs.given.turn.Tie as tie
 
@@ -10,8 +10,8 @@ meant-requires c κs = search needs
 enum-known-m : tie.Need-enum-known-m
 enum-known-m c = search needs
 
-settle-requires : tie.Need-settle-requires
-settle-requires c κs = search needs
+decide-requires : tie.Need-decide-requires
+decide-requires c κs = search needs
 
 say-answer-requires : tie.Need-say-answer-requires
 say-answer-requires c κs = search needs
@@ -26,7 +26,7 @@ returns : tie.Need-returns
 returns c =
     let s = c .before .before in
     let m = s .before .before .before .before .before .before .before .before .before in
-    by-meaning (sym (m .m .given .1) ∙ m .before .before .meant .ensures) (gave-one (s .settle .ensures))
+    by-meaning (sym (m .m .given .1) ∙ m .before .before .meant .ensures) (gave-one (s .decide .ensures))
 
 returns-2 : tie.Need-returns-2
 returns-2 c = by-meaning (sym (c .before .before .before .m2 .given .1) ∙ c .before .before .before .before .before .meant .ensures) gave-none
@@ -40,7 +40,7 @@ turn-spec =
     (tie.spec
     meant-requires
     enum-known-m
-    settle-requires
+    decide-requires
     say-answer-requires
     enum-known-m-2
     say-wrong-requires

@@ -4,10 +4,11 @@ use mathlib.Core.List.{List}
 use Prim.Native.Nat.{ℕ}
 use native.Mathlib.Omega.{arith}
 use borrow.Author.Tests.{not-true, not-false}
-use Rattle.boardfile.specs.Parts.{Framing, GoodFrame, Listing, GoodRoles, Entering, Granting}
-use Rattle.boardfile.proofs.Frames.{announced}
-use Rattle.boardfile.proofs.Readings.{refused-frame, refused-record, opened-not, opened}
 use borrow.Author.Needs.{needs}
+use Rattle.frames.specs.Framing.{Framing, GoodFrame}
+use Rattle.frames.proofs.Frames.{announced}
+use Rattle.boardfile.specs.Parts.{Listing, GoodRoles, Entering, Granting}
+use Rattle.boardfile.proofs.Readings.{refused-frame, refused-record, opened-not, opened}
 use Rattle.boardfile.proofs.opening.open.Statement.{statement}
 use Rattle.boardfile.proofs.opening.open.Tie as tie
 

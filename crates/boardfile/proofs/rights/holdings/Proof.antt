@@ -5,10 +5,11 @@ use Prim.Native.Nat.{ℕ, _+_, _*_}
 use native.Mathlib.Omega.{arith}
 use lib.ListN.{set}
 use borrow.Author.Tests.{not-true, not-false}
-use Rattle.boardfile.specs.Parts.{GoodFrame, Holding, Granted, Granting}
-use Rattle.boardfile.proofs.Frames.{announced}
-use Rattle.boardfile.proofs.RightBytes.{rights-room, rights-high, rights-granted}
 use borrow.Author.Needs.{needs}
+use Rattle.frames.specs.Framing.{GoodFrame}
+use Rattle.frames.proofs.Frames.{announced}
+use Rattle.boardfile.specs.Parts.{Holding, Granted, Granting}
+use Rattle.boardfile.proofs.RightBytes.{rights-room, rights-high, rights-granted}
 use Rattle.boardfile.proofs.rights.holdings.Statement.{statement}
 use Rattle.boardfile.proofs.rights.holdings.Tie as tie
 

@@ -1,9 +1,9 @@
+use borrow.Author.Needs.{needs}
 use Rattle.board.proofs.Asking.{answer-refused}
+use Rattle.writer.proofs.Places.{spanned}
 use Rattle.boardfile.specs.Answers.{BoundsAnswer}
 use Rattle.boardfile.proofs.Asking.{asked-refused, of-file}
-use Rattle.boardfile.proofs.Places.{spanned}
 use Rattle.boardfile.proofs.Readings.{read-done}
-use borrow.Author.Needs.{needs}
 use Rattle.boardfile.proofs.stretches.bounds.Statement.{statement}
 use Rattle.boardfile.proofs.stretches.bounds.Tie as tie
 

@@ -13,7 +13,7 @@ whole-row-requires : tie.Need-whole-row-requires
 whole-row-requires c κs = search needs
 
 order-requires : tie.Need-order-requires
-order-requires c κs = at-first (c .before .before .before .before .before .before .before .blank .ensures) (c .before .before .before .before .before .blank2 .ensures) (c .before .before .before .whole-row .ensures)
+order-requires c κs = at-first (c .before .before .before .before .before .before .before .blank .ensures) (c .before .before .before .before .before .blank2 .ensures) (c .before .before .before .whole-row .ensures .rows)
 
 returns : tie.Need-returns
 returns c = filled _ (c .order .ensures)

@@ -1,0 +1,26 @@
+use mathlib.Core.Path.{refl}
+use borrow.Author.Needs.{needs}
+use Rattle.answers.proofs.reason.Statement.{statement}
+use Rattle.answers.proofs.reason.Tie as tie
+
+mul-result : tie.Need-mul-result
+mul-result c = search needs
+
+mul-result-2 : tie.Need-mul-result-2
+mul-result-2 c = search needs
+
+add-result : tie.Need-add-result
+add-result c = search needs
+
+mul-result-3 : tie.Need-mul-result-3
+mul-result-3 c = search needs
+
+add-result-2 : tie.Need-add-result-2
+add-result-2 c = search needs
+
+returns : tie.Need-returns
+returns c = refl
+
+pub reason-spec : {M : Type 1} → statement M
+reason-spec =
+    tie.close (tie.spec mul-result mul-result-2 add-result mul-result-3 add-result-2 returns)

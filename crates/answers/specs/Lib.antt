@@ -1,0 +1,2 @@
+-- An answer in one number.
+pub mod Packing

@@ -1,0 +1,3 @@
+-- The frame of a board file.
+pub mod Frames
+pub mod Framing

@@ -1,0 +1,22 @@
+use borrow.Author.Needs.{needs}
+use native.Mathlib.Omega.{arith}
+use Rattle.host.proofs.values.scope_value.Statement.{statement}
+use Rattle.host.proofs.values.scope_value.Tie as tie
+
+cast-twice : tie.Need-cast-twice
+cast-twice c = search needs
+
+mul-twice : tie.Need-mul-twice
+mul-twice c = search needs
+
+add-result : tie.Need-add-result
+add-result c = search needs
+
+returns : tie.Need-returns
+returns c = rw (c .if1 .taken)
+
+returns-2 : tie.Need-returns-2
+returns-2 c = rw (c .if1 .left) (omega arith)
+
+pub scope-value-spec : {M : Type 1} → statement M
+scope-value-spec = tie.close (tie.spec cast-twice mul-twice add-result returns returns-2)

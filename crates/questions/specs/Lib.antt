@@ -1,0 +1,3 @@
+-- The four questions, as document 01 has them.
+pub mod Questions
+pub mod Trusting
