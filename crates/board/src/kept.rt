@@ -1,5 +1,5 @@
 // What a board keeps, read without working anything out: for a page that shows a board all day. The answer is the one that stands in
-// what is lent, whatever that is; of a sound board it is document 01's (`Rattle.board.proofs.Viewing`).
+// what is lent, whatever that is; of a sound board it is document 01's (`Rattle.board.proofs.Keeping`).
 ghost use mathlib.Core.Path.{_≡_};
 ghost use mathlib.Core.Logic.{_↔_};
 ghost use Prim.Native.Nat.{ℕ};

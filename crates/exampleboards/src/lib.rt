@@ -1,4 +1,5 @@
-// The boards and the commands of the examples, the same as those of the table of examples.
+// The boards and the commands of the examples, the same as those of the table of examples (`specs/Table.antt`), and that table's theorem. Knows
+// the board and the rules, and none of their functions but `work_out`.
 ghost use mathlib.Core.Path.{_≡_};
 ghost use Rattle.hierarchy.specs.Tables.{tables};
 ghost use Rattle.exampleboards.specs.Boards.{startRights, Of, P, W, L, E, F, command, addBetween, addRole, removeRole, addEdge, removeEdge, changeEdge, giveRights, takeRights};

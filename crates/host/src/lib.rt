@@ -1,7 +1,7 @@
 // The board for programs in C. `host/board.h` declares these functions and says how an answer is taken apart.
 //
-// What is decided is decided by `board`, `runs` and `boardfile`; here an answer is packed into one number. Nothing is asked of a caller but that
-// the pointers are good.
+// Knows all of the library; what is decided is decided there, by `commands`, `runs`, `jobs`, `writer` and `boardfile`, and here an answer is
+// packed into one number. Nothing is asked of a caller but that the pointers are good.
 mod lists;
 mod values;
 

@@ -1,4 +1,5 @@
-// The cooperative's job list above the board: which jobs there are, under which role each is listed, and who holds it.
+// The cooperative's job list above the board: which jobs there are, under which role each is listed, and who holds it. Knows
+// the questions about a board, and no command.
 //
 // A claim or a release is one call: it asks the board its question, decides, and changes the list where the number is 0; else the list is
 // as it was. Nobody has to test anything before.

@@ -98,7 +98,7 @@ pub record InScope (In : ℕ → ℕ → Type 0) (c : Command) : Type 0 where
 -- ---- request 3: who offends, and why
 
 -- The scope conditions of a command in the order they are looked through: of whom, and whether strict scope is asked. Nobody breaks one
--- exactly where `InScope` holds (`Rattle.board.proofs.Offenders`).
+-- exactly where `InScope` holds (`Rattle.refusals.proofs.Offenders`).
 abbrev pub conditions : Command → List ((ℕ → Bool) × Bool)
 conditions c =
     (λ x. leb 2 (c .code) && eqb x (c .role), eqb (c .code) 2)

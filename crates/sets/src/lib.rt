@@ -1,4 +1,5 @@
-// Sets of roles. A role is a number from 0 to 63, and a set is a u64 with bit r set where role r is in it.
+// Sets of roles. A role is a number from 0 to 63, and a set is a u64 with bit r set where role r is in it. Knows
+// nothing else.
 // Every function takes any number for a role: one above 63 is in no set, and adding or removing it changes nothing.
 // What a function gives is said member by member, for every number x; two sets with the same members are equal (`same-members`).
 ghost use mathlib.Core.Path.{_≡_};

@@ -1,4 +1,5 @@
-// The words in which coordinators ask for a change, read: a line means one command, or one word of it is wrong.
+// The words in which coordinators ask for a change, read: a line means one command, or one word of it is wrong. Knows
+// the record of a command, and no board.
 //
 //     ACTOR add-role ROLE [a-seniors SET] [i-seniors SET] [a-juniors SET] [i-juniors SET]      each set once, in any order
 //     ACTOR remove-role ROLE

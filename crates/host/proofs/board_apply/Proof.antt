@@ -1,5 +1,5 @@
 -- `host::board_apply` meets its contract: a walk of its MIR, by hand. The command is copied from behind its borrow, which is looked into
--- and shut again, and the caller's board is handed on to `board::lent::apply_in_place` for good, at its own lifetime. What that answers is
+-- and shut again, and the caller's board is handed on to `commands::lent::apply_in_place` for good, at its own lifetime. What that answers is
 -- handed to `answered`, by value. All that the proof knows of these two is that they meet their contracts. Assumes nothing.
 use mathlib.Core.Path.{_≡_, refl}
 use Prim.Native.Nat.{ℕ}

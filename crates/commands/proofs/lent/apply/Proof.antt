@@ -1,4 +1,4 @@
--- `board::lent::apply` meets its contract: a walk of its MIR, by change-rights. The borrow is opened, the board is copied and passed to `step`,
+-- `commands::lent::apply` meets its contract: a walk of its MIR, by hand. The borrow is opened, the board is copied and passed to `step`,
 -- what `step` returned is stored over it, and the borrow is closed at the new board.
 -- All that the proof knows of `step` is that it meets its contract. Assumes nothing.
 use mathlib.Core.Path.{refl, ap}

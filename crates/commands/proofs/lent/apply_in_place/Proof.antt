@@ -1,4 +1,4 @@
--- `board::lent::apply_in_place` meets its contract: a walk of its MIR, by change-rights. The borrow is opened, the board's seven fields are lent to `decide`
+-- `commands::lent::apply_in_place` meets its contract: a walk of its MIR, by hand. The borrow is opened, the board's seven fields are lent to `decide`
 -- where they lie, each for a lifetime made for the call, and the borrow is closed at the board that they are afterwards.
 -- All that the proof knows of `decide` is that it meets its contract. Assumes nothing.
 use mathlib.Core.Path.{refl}
@@ -89,8 +89,8 @@ module _
   abbrev to : (k : Loans) → Args decide.signature (lifetimesOf k tt)
   to k = refsOf k (r .now) b o (c, tt)
 
-  abbrev to-settle : Loans → Does 𝓤 H A at-mem run .Ghost
-  to-settle k = ((lifetimesOf k tt, sharesOf tt, tt, to k, pointersOf b o (ofCommand c ∷ [], tt)), tt)
+  abbrev to-decide : Loans → Does 𝓤 H A at-mem run .Ghost
+  to-decide k = ((lifetimesOf k tt, sharesOf tt, tt, to k, pointersOf b o (ofCommand c ∷ [], tt)), tt)
 
   module _ (C : Calls 𝓤 H) (Λ : Loops 𝓤 H) (fm : FmC 𝓤 H (W .laws) C) (known : Triple 𝓤 (C #decide) (Does 𝓤 H A at-mem run)) where
     walk : ent 𝓤 (onEntry 𝓤 H A apply.signature (κ, tt) (q, tt) x at) (WpFn 𝓤 H C Λ code.function (only (ptr-vals r) ∷ ofCommand c ∷ []) (Walk .post here))
@@ -111,9 +111,9 @@ module _
         assigns ! (addr ! (from ! (hop ! (look ! 16 refl) (fld ! refl (stop !))))) (from ! (stop !)) (init ! 0 refl (tt, tt)) $
         -- the borrow is opened, the fields are lent, and what `decide` asks is put together
         move ! (20 ∷ 21 ∷ 22 ∷ []) $ open-ref ! tt (mem B.the-row) {x = r .now} {b = b} {o = o} $ move ! (0 ∷ 24 ∷ []) $ lends-fields ! tt (r .now) b o passed (λ k.
-        join ! $ nothing ! $ move ! (1 ∷ 0 ∷ []) $ join ! $ use1 W (raw (Does 𝓤 H A at-mem run .pre (to-settle k))) (id⊢ 𝓤 _) $
+        join ! $ nothing ! $ move ! (1 ∷ 0 ∷ []) $ join ! $ use1 W (raw (Does 𝓤 H A at-mem run .pre (to-decide k))) (id⊢ 𝓤 _) $
         -- [what `decide` asks; the lender's parts; the way back; the open borrow; obs; auth; _9; …]
-        calls-at ! fm (Does 𝓤 H A at-mem run) known (to-settle k)
+        calls-at ! fm (Does 𝓤 H A at-mem run) known (to-decide k)
         (and-then ! (load ! (from ! (stop !)) (look ! 18 refl)) (and-then ! (load ! (from ! (stop !)) (look ! 16 refl)) (and-then ! (load ! (from ! (stop !)) (look ! 14 refl)) (and-then ! (load ! (from ! (stop !)) (look ! 12 refl)) (and-then ! (load ! (from ! (stop !)) (look ! 10 refl)) (and-then ! (load ! (from ! (stop !)) (look ! 8 refl)) (and-then ! (load ! (from ! (stop !)) (look ! 6 refl)) (and-then ! (load ! (from ! (stop !)) (look ! 20 refl)) (no-more !))))))))) (λ w.
         use1 W (later (some (λ (n : Answer). (‵ (tokensOf k) ⊛ ‵ (An.the-row .own n (w ∷ []))) ⊛ raw (ensured 𝓤 H A decide.ended (decide.clauses 𝓤 H A at-mem run) (lifetimesOf k tt) (to k) tt n))))
         (id⊢ 𝓤 _) $ await ! tt $ pick ! (λ n. split ! $ move ! (1 ∷ []) $
