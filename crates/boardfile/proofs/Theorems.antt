@@ -2,7 +2,7 @@
 -- where it is an HR; it is read back as that board, and nothing else is accepted. Assumes nothing.
 use mathlib.Core.Path.{_≡_, refl, sym, ap, _∙_, subst}
 use mathlib.Core.Bool.{Bool, true, false, cond}
-use mathlib.Core.Logic.{inr, ⊎-elim, _↔_, _≢_}
+use mathlib.Core.Logic.{⊎-elim, _↔_, _≢_}
 use mathlib.Core.List.{List, [], _++_, append-assoc}
 use Prim.Native.Nat.{ℕ, _+_, _-_, _/_, _%_, _≤_, _<_}
 use native.Mathlib.Omega.{arith}
@@ -24,7 +24,7 @@ use Rattle.board.proofs.Rules.{Passed, first-done, first-next}
 use Rattle.frames.specs.Frames.{EndsHH, EndsHR, BadFrame}
 use Rattle.frames.proofs.Frames.{said}
 use Rattle.writer.specs.Files.{from, edge?, edgeBytes, kindAt, founding?, fileOf, stretchOf, startOf}
-use Rattle.writer.specs.Parts.{tailLength, PutAnswer}
+use Rattle.writer.specs.Parts.{tailLength}
 use Rattle.writer.specs.Writing.{writeRefusals, WriteAnswer}
 use Rattle.writer.specs.Writing.{NoRoom.past-end}
 use Rattle.writer.proofs.Ascending.{from-short}

@@ -13,7 +13,7 @@ use Rattle.hierarchy.specs.Views.{InOrder, Inward, AreViews}
 use Rattle.hierarchy.proofs.Checks.{or-is}
 use Rattle.hierarchy.proofs.Derive.{edge-entry}
 use Rattle.hierarchy.proofs.Decide.{live-loops-dec}
-use Rattle.hierarchy.proofs.FirstLaws.{hit, pass, none}
+use Rattle.hierarchy.proofs.FirstLaws.{hit, pass}
 use Rattle.hierarchy.proofs.Order.{order-no-loop, inward-order}
 use Rattle.hierarchy.proofs.ViewLaws.{admin-by}
 use Rattle.board.specs.declared.Command.{Command}

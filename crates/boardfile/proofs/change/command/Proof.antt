@@ -1,4 +1,4 @@
-use mathlib.Core.Path.{_≡_, refl}
+use mathlib.Core.Path.{refl}
 use borrow.Author.Needs.{needs}
 use Rattle.board.specs.Boards.{boardOf, SoundBoard}
 use Rattle.board.specs.declared.Board.{Board}
