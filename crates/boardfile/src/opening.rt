@@ -21,7 +21,7 @@ fn refused(number: u8) -> Opened
     Opened { number, live: 0 }
 }
 
-// Reads the parts one after the other, and weighs the board. A refusal leaves anything in what is lent.
+// Reads the parts one after the other, and works out what the board keeps. On refusal what is lent holds anything.
 pub(crate) fn open(
     file: &[u8],
     i: &mut [u64; 64],

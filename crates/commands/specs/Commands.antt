@@ -20,6 +20,8 @@ pub record Outside (t : Tables) (c : Command) : Type 0 where
   pub adds : c .code ≡ 1
   pub outside : Administrator t (c .actor) (c .role) → ⊥
 
+-- ---- the table of refusals, in the order they are tried
+
 -- on the tables that the command would leave: past loops, and all
 abbrev pub pastLoops : Tables → Command → List (ℕ × Type 0)
 pastLoops t c =

@@ -18,7 +18,7 @@ use Rattle.refusals.specs.Trusting.{BlamesBy, beforeTrusting}
 use Rattle.commands.specs.Commands.{pastLoops, DecidedBy}
 
 -- The tables that the command would leave show that the board handed in was not sound: the live roles are not in order, and one has a
--- junior that isn't live. Soundness is not looked at before, and this row is tried where the work comes to a halt on it.
+-- junior that isn't live. Soundness isn't checked before; this row applies when working the tables out meets such a junior.
 pub record Torn (t : Tables) : Type 0 where
   pub disordered : InOrder t → ⊥
   pub outward : Inward t → ⊥

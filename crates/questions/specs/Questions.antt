@@ -13,6 +13,7 @@ use Rattle.board.specs.declared.Board.{Board}
 use Rattle.board.specs.declared.kept.Manager.{Manager}
 use Rattle.board.specs.declared.kept.Manager.the-variants.{Role, Nobody}
 
+-- an unsound board is refused before the roles named are looked at
 abbrev pub refusals : Board → ℕ → ℕ → List (ℕ × Type 0)
 refusals b x y = (1, (SoundBoard b → ⊥)) ∷ misnamed (b .live) x y
 

@@ -10,8 +10,7 @@ use Rattle.board.specs.declared.Command.{Command}
 use Rattle.board.specs.declared.answers.Answer.{Answer}
 use Rattle.refusals.specs.Refusals.{before, Blames}
 
--- ---- a command: document 01's rows, with deriving and scope read off the two tables
-
+-- a derives x, by the row of a
 abbrev pub DerivesBy : List ℕ → ℕ → ℕ → Type 0
 DerivesBy down a x = x isIn row down a
 
@@ -19,5 +18,6 @@ DerivesBy down a x = x isIn row down a
 abbrev pub BlamesBy : List ℕ → List ℕ → Command → Answer → Type 0
 BlamesBy down up = Blames (ScopeBy down up) (OutOfScopeBy down up)
 
+-- the rows on the board handed in
 abbrev pub beforeTrusting : Board → Command → List (ℕ × Type 0)
 beforeTrusting b c = before (DerivesBy (b .derives)) (ScopeBy (b .derives) (b .derivers)) (tablesOf b) (b .rights) c

@@ -12,7 +12,7 @@ use Rattle.board.specs.Boards.{tablesOf, SoundBoard}
 use Rattle.board.specs.declared.Board.{Board}
 use Rattle.writer.specs.Files.{fileOf, stretchOf, startOf}
 
--- ---- the edge records of one senior, with the same refusals
+-- ---- where the edge records of one senior stand
 
 -- A senior without an edge has no place to name, and its start is 0.
 unfoldable pub startOrNone : Tables → ℕ → ℕ
