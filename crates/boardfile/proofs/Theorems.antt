@@ -121,6 +121,16 @@ reads-back b sound r =
     let done = reads (tablesOf b) (sound .sound) (b .rights) (sound .rightful) r in
     (done, one-board (r .done done) (sound-file (tablesOf b) (sound .sound) (b .rights) (sound .rightful), sound))
 
+-- the reader may give it, and by `reads-back` nothing else
+pub sound-reads : (b : Board) → SoundBoard b → ReadAnswer (fileOf (tablesOf b) (b .rights)) 0 b
+sound-reads b sound =
+    let t : Tables = tablesOf b in
+    let f : List ℕ = fileOf t (b .rights) in record {
+      numbered = first-next (refusals f) [] 0 (passes t (sound .sound) (b .rights) (sound .rightful)) none;
+      done = λ _. (sound-file t (sound .sound) (b .rights) (sound .rightful), sound);
+      refused = λ n. absurd (n refl);
+    }
+
 -- ---- what is accepted
 
 -- done: the bytes are the file of the board that is handed back, which is sound

@@ -13,30 +13,16 @@ use Rattle.sets.specs.Sets.{bit, _isIn_, same?}
 use Rattle.sets.proofs.Bools.{and-both, not-so}
 use Rattle.sets.proofs.Laws.{bit-lt, same-eq, setOf-fits, ones-less, but, bit-but}
 use Rattle.hierarchy.specs.Tables.{Tables, Live}
-use Rattle.hierarchy.specs.Words.{Reaches, LineManager, Sound, Climb}
+use Rattle.hierarchy.specs.Words.{Reaches, LineManager, Sound, Climb, met, Each, Distinct}
 use Rattle.hierarchy.specs.Words.{Climb.top, Climb.up}
 use Rattle.hierarchy.proofs.Derive.{starts}
 use Rattle.hierarchy.proofs.Admin.{sound-loopless, reaches-trans, admin-live, admin-reaches, manager-unique, manager-exists}
 
--- the roles that a climb meets, from the first to role 0
-unfoldable pub met : {t : Tables} {r n : ℕ} → Climb t r n → List ℕ
-met top = 0 ∷ []
-met (up {r = r} h c) = r ∷ met c
-
--- one more than the steps
+-- it meets one role more than it has steps
 pub met-length : {t : Tables} {r n : ℕ} (c : Climb t r n) → length (met c) ≡ suc n
 unfolding met
 met-length top = refl
 met-length (up h c) = ap suc (met-length c)
-
-abbrev Each : (ℕ → Type 0) → List ℕ → Type 0
-Each P [] = Unit {0}
-Each P (x ∷ l) = P x × Each P l
-
--- no two elements are equal
-abbrev pub Distinct : List ℕ → Type 0
-Distinct [] = Unit {0}
-Distinct (x ∷ l) = Each (λ y. x ≢ y) l × Distinct l
 
 each-map : {P Q : ℕ → Type 0} → ((x : ℕ) → P x → Q x) → (l : List ℕ) → Each P l → Each Q l
 each-map f [] h = tt

@@ -5,10 +5,9 @@ use Prim.Native.Nat.{ℕ, _+_, _≤_}
 use native.Mathlib.Omega.{arith}
 use lib.Count.{ones}
 use Rattle.hierarchy.specs.Tables.{Tables, Live}
-use Rattle.hierarchy.specs.Words.{Reaches, LineManager, Sound, Climb}
+use Rattle.hierarchy.specs.Words.{Reaches, LineManager, Sound, Climb, met, Distinct}
 use Rattle.hierarchy.proofs.Admin
 use Rattle.hierarchy.proofs.ClimbLaws
-use Rattle.hierarchy.proofs.ClimbLaws.{Distinct, met}
 
 module _ {t : Tables} (sound : Sound t) where
   -- Each live role but 0 has exactly one line manager.

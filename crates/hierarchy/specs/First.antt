@@ -8,3 +8,8 @@ use Prim.Native.Nat.{ℕ}
 unfoldable pub First : List (ℕ × Type 0) → ℕ → Type 0
 First [] n = n ≡ 0
 First (rule ∷ rest) n = (rule .1 × (n ≡ rule .0)) ⊎ ((rule .1 → ⊥) × First rest n)
+
+-- n is a number of the table
+abbrev pub Among : ℕ → List (ℕ × Type 0) → Type 0
+Among n [] = ⊥
+Among n (rule ∷ rest) = (n ≡ rule .0) ⊎ Among n rest

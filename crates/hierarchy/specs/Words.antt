@@ -1,7 +1,7 @@
 -- The words of document 01, parts "Roles, edges, paths" and "Scope and line manager", each as one definition, and the words of request 3.
 use mathlib.Core.Path.{_≡_}
 use mathlib.Core.Logic.{_≢_, _⊎_}
-use mathlib.Core.List.{List}
+use mathlib.Core.List.{List, [], _∷_}
 use Prim.Native.Nat.{ℕ, suc, _≤_}
 use Rattle.sets.specs.Sets.{_isIn_}
 use Rattle.hierarchy.specs.Tables.{Tables, row, Live, Shaped, kind, join}
@@ -96,3 +96,17 @@ pub record Sound (t : Tables) : Type 0 where
 pub data Climb (t : Tables) : ℕ → ℕ → Type 0 where
   top : Climb t 0 0
   up : {r m n : ℕ} → LineManager t m r → Climb t m n → Climb t r (suc n)
+
+-- the roles that a climb meets, from the first to role 0
+unfoldable pub met : {t : Tables} {r n : ℕ} → Climb t r n → List ℕ
+met top = 0 ∷ []
+met (up {r = r} h c) = r ∷ met c
+
+-- no role twice: no two elements are equal
+abbrev pub Each : (ℕ → Type 0) → List ℕ → Type 0
+Each P [] = Unit {0}
+Each P (x ∷ l) = P x × Each P l
+
+abbrev pub Distinct : List ℕ → Type 0
+Distinct [] = Unit {0}
+Distinct (x ∷ l) = Each (λ y. x ≢ y) l × Distinct l

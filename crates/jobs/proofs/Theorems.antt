@@ -10,17 +10,18 @@ use native.Mathlib.Omega.{arith}
 use lib.Dec.{eqb, ltb}
 use lib.ListN.{length, getD, replicate, length-replicate, getD-replicate, List·getD-append}
 use lib.Seq.{getD-append-add}
-use borrow.Author.Tests.{ltb-true, lt-ltb, le-ltb}
+use borrow.Author.Tests.{ne-eqb, ltb-true, lt-ltb, le-ltb}
 use Rattle.sets.specs.Sets.{num}
 use Rattle.sets.proofs.Bools.{true-or-false, not-so, false-no, and-right, lt-or-ge, cond-elim}
 use Rattle.hierarchy.specs.First.{First}
 use Rattle.hierarchy.proofs.FirstLaws.{first-unique}
 use Rattle.hierarchy.proofs.Rows.{one-entry}
+use Rattle.board.specs.declared.Board.{Board}
 use Rattle.board.proofs.Rules.{first-done}
 use Rattle.board.proofs.Unique.{answered-unique}
 use Rattle.jobs.specs.Lists.{Jobs, roleAt, isListed, isHeld, isOpen, Held, Open, HeldBy}
 use Rattle.jobs.specs.Answers.{Fits, newList, startRefusals, StartAnswer, Settles, StateIs, LookAnswer}
-use Rattle.jobs.specs.Histories.{Event, Entry, EventAnswer, Went, History, claimOf, releaseOf, memberOf, claimsOf, releasesOf, LatestClaim, howMany}
+use Rattle.jobs.specs.Histories.{Event, Entry, EventAnswer, Went, History, claimOf, releaseOf, memberOf, claimsOf, releasesOf, unreleasedOf, LatestClaim, howMany}
 use Rattle.jobs.specs.Histories.{Event.claim, Event.release, Went.over, Went.then}
 use Rattle.jobs.specs.declared.State.{State}
 use Rattle.jobs.specs.declared.State.the-variants.{IsOpen, HeldBy as IsHeldBy}
@@ -139,12 +140,43 @@ held-by-latest {listed} {last = last} h j m = (
       let k = went-quiet (one .1 .1) (one .1 .3) j (l .latest) (l .unreleased) (one .1 .2) in (k .0, k .1 ∙ l .member),
 )
 
-same-holder : (jobs : Jobs) (j : ℕ) {m n : ℕ} → HeldBy jobs j m → HeldBy jobs j n → m ≡ n
-same-holder jobs j h k = sym (h .1) ∙ k .1
+-- ---- never two
 
--- So a job never has two holders: of no history do two members have the latest successful claim of it, unreleased.
-pub one-holder : {listed : List ℕ} {log : List Entry} {last : Jobs} → History listed log last → (j m n : ℕ) → LatestClaim log j m → LatestClaim log j n → m ≡ n
-one-holder {last = last} h j m n p q = same-holder last j (held-by-latest h j m .1 p) (held-by-latest h j n .1 q)
+gone : (r : ℕ) → num (true && eqb (1 + r) 0) ≡ 0
+gone r = ap num (ne-eqb (1 + r) 0 (λ e. omega (arith, e)))
+
+-- an entry takes as many unreleased claims away as it adds, the one included that holds the job when it comes
+turn-unreleased : {jobs next : Jobs} {e : Entry} {j : ℕ} (r u x : ℕ) → Did jobs next e j → u + num (isHeld next j && eqb r 0) ≡ x
+    → num (claimOf j e && eqb r 0) + u + num (isHeld jobs j && eqb (num (releaseOf j e) + r) 0) ≡ x
+turn-unreleased r u x (takes p q h t) f = rw (p, h) (omega (arith, rw (t .0) at f))
+turn-unreleased r u x (frees p q h t) f = rw (p, q, h) (omega (arith, rw t at f, gone r))
+turn-unreleased r u x (leaves p q h t) f = let e : num false + r ≡ r = omega arith in rw (p, q, e) (omega (arith, rw h at f))
+
+none-yet : (p : Bool) → 0 + num (p && true) ≡ num p
+none-yet true = refl
+none-yet false = refl
+
+went-unreleased : {roles : List ℕ} {jobs last : Jobs} {log : List Entry} → Whole roles jobs → Went jobs log last → (j : ℕ)
+    → unreleasedOf j log + num (isHeld jobs j && eqb (releasesOf j log) 0) ≡ num (isHeld last j)
+went-unreleased {last = last} w over j = none-yet (isHeld last j)
+went-unreleased {last = last} w (then {e = e} {rest = log} a rest) j =
+    turn-unreleased (releasesOf j log) (unreleasedOf j log) (num (isHeld last j)) (step (e .event) w a j) (went-unreleased (stays-whole (e .event) (e .number) w a) rest j)
+
+-- A held job has just one successful claim without a successful release of it after, and a job that isn't held has none.
+pub held-where-unreleased : {listed : List ℕ} {log : List Entry} {last : Jobs} → History listed log last → (j : ℕ) → unreleasedOf j log ≡ num (isHeld last j)
+held-where-unreleased {listed} {log} h j = omega (arith, went-unreleased (new-whole listed) (h .went) j, ap (λ (p : Bool). num (p && eqb (releasesOf j log) 0)) (new-open listed j))
+
+at-most-one : (p : Bool) → num p ≤ 1
+at-most-one true = omega arith
+at-most-one false = omega arith
+
+-- So no job ever has two holders: of no history are there two successful claims of one job, each with no successful release of it after.
+pub one-holder : {listed : List ℕ} {log : List Entry} {last : Jobs} → History listed log last → (j : ℕ) → unreleasedOf j log ≤ 1
+one-holder {last = last} h j = omega (arith, held-where-unreleased h j, at-most-one (isHeld last j))
+
+-- What that shuts out: two claims of one job in a row, both answered 0, whoever made them, are two.
+two-in-a-row : (b : Board) (m n r : ℕ) → unreleasedOf 0 (entryOf (claim b 0 m r) 0 ∷ entryOf (claim b 0 n r) 0 ∷ []) ≡ 2
+two-in-a-row b m n r = refl
 
 -- ---- how many are open and how many held
 
@@ -236,6 +268,9 @@ answer-unique (release b j m r) jobs p q = settles-unique p q
 -- So do two answers to the same start,
 pub start-unique : {listed : List ℕ} {m n : ℕ} {x y : Jobs} → StartAnswer listed m x → StartAnswer listed n y → (m ≡ n) × (x ≡ y)
 start-unique p q = settles-unique p q
+
+same-holder : (jobs : Jobs) (j : ℕ) {m n : ℕ} → HeldBy jobs j m → HeldBy jobs j n → m ≡ n
+same-holder jobs j h k = sym (h .1) ∙ k .1
 
 -- and to the same look at a job.
 pub look-unique : (jobs : Jobs) (j : ℕ) {m n : ℕ} {v w : State} → LookAnswer jobs j m v → LookAnswer jobs j n w → (m ≡ n) × (v ≡ w)

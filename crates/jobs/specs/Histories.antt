@@ -66,6 +66,11 @@ claimsOf j = tally (claimOf j)
 abbrev pub releasesOf : ℕ → List Entry → ℕ
 releasesOf j = tally (releaseOf j)
 
+-- how many successful claims of job j have no successful release of it after them
+abbrev pub unreleasedOf : ℕ → List Entry → ℕ
+unreleasedOf j [] = 0
+unreleasedOf j (e ∷ rest) = num (claimOf j e && eqb (releasesOf j rest) 0) + unreleasedOf j rest
+
 -- The latest successful claim of job j is by m, and no successful release of it came after.
 pub record LatestClaim (log : List Entry) (j m : ℕ) : Type 0 where
   pub before : List Entry

@@ -11,11 +11,10 @@ use lib.Count.{ones}
 use lib.ListN.{length, take, drop, replicate}
 use Rattle.sets.specs.Sets.{_isIn_}
 use Rattle.hierarchy.specs.Tables.{Tables, row, Live}
-use Rattle.hierarchy.specs.Words.{Derives, Scope, OutOfScope, LineManager, Sound, Climb}
+use Rattle.hierarchy.specs.Words.{Derives, Scope, OutOfScope, LineManager, Sound, Climb, met, Distinct}
 use Rattle.hierarchy.specs.Views.{ScopeBy, OutOfScopeBy, ManagerIs, managerAt, stepsUp}
-use Rattle.hierarchy.specs.First.{First}
+use Rattle.hierarchy.specs.First.{First, Among}
 use Rattle.hierarchy.proofs.Bars.{out-by, out-unique, out-not, out-some}
-use Rattle.hierarchy.proofs.ClimbLaws.{Distinct, met}
 use Rattle.hierarchy.proofs.FirstLaws.{first-unique, hit, pass}
 use Rattle.hierarchy.proofs.Theorems.{no-manager, one-manager, one-climb, one-way, climb-distinct, climb-short}
 use Rattle.board.specs.Boards.{tablesOf, boardOf, foundingBoard, KeepsRight, SoundBoard}
@@ -58,14 +57,11 @@ use Rattle.boardfile.specs.Answers.{CommandAnswer.unread, CommandAnswer.refused
 use Rattle.boardfile.specs.Stretches.{StretchOf}
 use Rattle.boardfile.specs.declared.change.Place.{Place}
 use Rattle.boardfile.proofs.Unique.{read-unique, derives-file-unique, scope-file-unique, manager-file-unique, steps-file-unique, stretch-unique, command-unique}
-use Rattle.boardfile.proofs.Theorems.{accepted, reads-back, written-file, plain-where, rights-where}
+use Rattle.boardfile.proofs.Theorems.{accepted, reads-back, sound-reads, written-file, plain-where, rights-where}
+use Rattle.theorems.specs.OnFiles.{Refused, Chain}
+use Rattle.theorems.specs.OnFiles.{Chain.begun, Chain.followed}
 use Rattle.theorems.specs.Reached.{Reached}
 use Rattle.theorems.specs.Reached.{Reached.founding, Reached.file, Reached.command}
-
--- n is a number of the table
-abbrev Among : ℕ → List (ℕ × Type 0) → Type 0
-Among n [] = ⊥
-Among n (rule ∷ rest) = (n ≡ rule .0) ⊎ Among n rest
 
 first-among : (t : List (ℕ × Type 0)) (n : ℕ) → First t n → (n ≡ 0) ⊎ Among n t
 unfolding First
@@ -139,11 +135,6 @@ writing-ends {b} {entry} {at = at} {number = number} w = dite (ℕ-discrete numb
 
 -- a command on the board in a file: with the file of the board afterwards in the buffer, or with a refusal of the file, of the command on
 -- its board, or for want of room, and the buffer as it was
-abbrev Refused : List ℕ → Command → ℕ → Type 0
-Refused f c number =
-    Among number (refusals f)
-    ⊎ ((b : Board) × ReadAnswer f 0 b × (Among number (commandRefusals b c) ⊎ (number ≡ 12)))
-
 pub file-command-ends : {f : List ℕ} {c : Command} {entry exit : List ℕ} {place : Place} {answer : Answer} {len : ℕ} → CommandAnswer f c entry exit place answer len
     → ((answer .number ≡ 0) × ((b : Board) × ReadAnswer f 0 b × Placed (fileOf (after (tablesOf b) c) (rightsAfter c (b .rights))) entry 0 exit len))
     ⊎ (Refused f c (answer .number) × Unplaced entry exit len)
@@ -363,6 +354,25 @@ file-read = reads-back
 pub file-accepted : {f : List ℕ} {number : ℕ} {board : Board} → ReadAnswer f number board
     → (number ≡ 0) ↔ ((t : Tables) × ((rights : List ℕ) × (f ≡ fileOf t rights) × Sound t × RightsFit (t .live) rights))
 file-accepted = accepted
+
+-- the file that a done command on a file leaves is accepted, and reading it gives the board that the command made of the one in that file;
+pub left-file-read : {f : List ℕ} {c : Command} {entry exit : List ℕ} {place : Place} {answer : Answer} {len : ℕ} → CommandAnswer f c entry exit place answer len → answer .number ≡ 0
+    → (b : Board) × ((next : Board) × ReadAnswer f 0 b × Decided b c (plain 0) next × ReadAnswer (take len exit) 0 next)
+left-file-read (unread r z e) n = absurd (z n)
+left-file-read (refused r d z e) n = absurd (z n)
+left-file-read (no-room r d w) n = absurd (omega (arith, n))
+left-file-read (done {b = b} {next = next} r d w) n =
+    (b, (next, r, d, subst (λ (f : List ℕ). ReadAnswer f 0 next) (sym (written-file w)) (sound-reads next (d .done refl .fit))))
+
+-- so a chain of files is a chain of boards: its last file is read as the board that its commands, in one run, leave of the board in the first
+pub chain-ran : {f g : List ℕ} {commands : List Command} {b : Board} → ReadAnswer f 0 b → Chain f commands g
+    → (last : Board) × ReadAnswer g 0 last × Ran b commands (replicate (length commands) (plain 0)) last
+chain-ran {b = b} r begun = (b, r, over)
+chain-ran r (followed {c = c} a n rest) =
+    let left = left-file-read a n in
+    let next = left .1 in
+    let later = chain-ran (next .3) rest in
+    (later .0, later .1, given (subst (λ (b : Board). Decided b c (plain 0) (next .0)) (read-unique (next .1) r .1) (next .2)) (later .2))
 
 -- ---- demand 3: on every board reached, each live role but 0 has one line manager, and the way up by them ends at role 0
 

@@ -1,2 +1,3 @@
--- What a board may be that was reached by commands.
+-- What a board may be that was reached by commands, and what commands on files leave.
+pub mod OnFiles
 pub mod Reached
