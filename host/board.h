@@ -5,6 +5,9 @@
  * stack (docs/PERFORMANCE.md has the most that each call takes), and calls from several threads are fine on different
  * boards and buffers.
  *
+ * It believes the caller who acts. Take `actor`, the role of whoever asks, from their login, and never from a form: whoever
+ * may name the actor may do all that any role may.
+ *
  * Of a pointer it asks what C asks: that many bytes are there. Hand over no null pointer, not even with length 0. What a
  * call writes (`b`, `out`, `answers`) may overlap nothing else that is handed over, and nobody else writes what is handed
  * over, or reads what is written, during the call.
@@ -38,6 +41,7 @@ extern "C" {
 #define BOARD_ROLES 64   /* roles are 0 to 63; role 0 is the founding role */
 #define BOARD_EDGES 2016 /* the most a board can have without a loop */
 #define BOARD_FILE 6184  /* the bytes of the longest board file */
+#define BOARD_PLAIN_FILE 6118 /* the bytes of the longest that ends in HH */
 
 /* The right to give the command of a code, 1 to 5, as a bit of a rights byte; and all five. */
 #define BOARD_RIGHT(code) (1u << ((code)-1))
@@ -104,7 +108,7 @@ struct board {
 #define BOARD_NO_MANAGER 64
 
 /* Board files are of two kinds, told apart by their last two bytes, and every call takes both. A board where role 0 holds
- * all five rights and no other role any has a file that ends in HH, at most 6,118 bytes, and no rights in it. Every other
+ * all five rights and no other role any has a file that ends in HH, at most BOARD_PLAIN_FILE bytes, and no rights in it. Every other
  * board has one that ends in HR, with a rights byte for each live role. So a board has one file. */
 
 /* Fills in the founding board: role 0 is live and holds all five rights, and there is no edge. The answer is 0. */

@@ -74,7 +74,7 @@ each() { # ROUNDS STORIES MIXED THIRDS
 fit() {
     command -v patch >/dev/null || die "patch is missing"
     for patch in "$here"/broken/*.patch; do
-        (cd "$root" && patch -p1 -s -F0 --dry-run <"$patch") || die "${patch##*/} doesn't fit crates/boardchange/src any more"
+        (cd "$root" && patch -p1 -s -F0 --dry-run <"$patch") || die "${patch##*/} doesn't fit crates/boardchange/src/protocol.rt any more"
     done
 }
 

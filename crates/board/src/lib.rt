@@ -34,7 +34,9 @@ impl Board {
     pub const NO_MANAGER: u8 = 64;
     // in `rights`: all five
     pub const ALL_RIGHTS: u8 = 31;
-    // the bytes of the longest board file: two bytes a role, three an edge, and the trailer's eight
+    // the bytes of the longest HH file: a byte a role, three an edge, and the trailer's six
+    pub const PLAIN_FILE: usize = Board::ROLES + 3 * Board::EDGES + 6;
+    // of the longest HR file, which is the longest of all: two bytes a role, three an edge, and the trailer's eight
     pub const FILE: usize = 2 * Board::ROLES + 3 * Board::EDGES + 8;
 
     // Role 0 lives and has all rights, and there is no edge.

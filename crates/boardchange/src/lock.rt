@@ -1,5 +1,6 @@
 // The lock of a board: a file beside it that one change makes and all others find. This program removes no other's.
 use crate::lines::complain;
+use crate::protocol::make;
 use crate::system::nap;
 use crate::system::see;
 use libc::EEXIST;
@@ -10,13 +11,13 @@ const PATIENCE: u32 = 500;
 // Makes the lock, and waits where another change has it. Answers a descriptor, or a number below 0 where it could not be made.
 fn taken(lock: &[u8]) -> i32 {
     let mut left = PATIENCE;
-    let mut fd = os::create(lock);
+    let mut fd = make(lock);
     while left > 0 {
         if fd >= 0 || os::errno() != EEXIST {
             return fd;
         }
         nap();
-        fd = os::create(lock);
+        fd = make(lock);
         left -= 1;
     }
     fd

@@ -16,17 +16,15 @@ mod input;
 mod lines;
 mod lock;
 mod paths;
+mod protocol;
 mod reasons;
 mod system;
 
 use board::Board;
-use disk::Loaded;
 use disk::NAMES;
 use disk::NO_FILE;
-use disk::load;
 use disk::open_folder;
 use disk::read_whole;
-use disk::store;
 use given::given;
 use input::INPUT;
 use input::gather;
@@ -39,35 +37,41 @@ use lines::put_line;
 use lines::put_quoted;
 use lines::say;
 use lock::give_up;
-use lock::is_lost;
 use lock::take;
 use paths::is_link;
 use paths::is_lock;
 use paths::put_lock;
+use protocol::Begun;
+use protocol::LOST;
+use protocol::PLACED;
+use protocol::UNWRITTEN;
+use protocol::begin;
+use protocol::put_in_place;
 use reasons::put_refused;
 
-// The lock, which has the new board, takes the file's name, and that reaches the disk. Answers whether it did.
-fn renamed(name: &[u8], lock: &[u8], fd: i32, folder: i32) -> bool {
-    if is_lost(fd) {
-        libc::close(fd);
+// Why the new board isn't the file.
+fn say_unplaced(name: &[u8], lock: &[u8], came: u8) {
+    if came == LOST {
         complain(lock, b": somebody removed this lock; nothing was changed");
-        return false;
+        return;
     }
-    if os::rename(lock, name) != 0 {
-        give_up(fd, lock);
-        os::fail(name);
-        return false;
+    if came == UNWRITTEN {
+        os::fail(lock);
+        return;
     }
-    libc::close(fd);
+    os::fail(name);
+}
+
+// What the names in the folder mean reaches the disk too.
+fn sync_folder(name: &[u8], folder: i32) {
     if libc::fsync(folder) != 0 {
         os::fail(name);
         complain(name, b": changed, but a loss of power may undo it");
     }
-    true
 }
 
-// The new board takes the old one's place: it goes into the lock, down to the disk, and the lock takes the file's name. Answers whether it
-// did; where not, the lock is gone and the file as it was. The lock goes before anything is said, here and everywhere.
+// The new board takes the old one's place. Answers whether it did; where not, the lock is gone and the file as it was. The lock goes
+// before anything is said, here and everywhere.
 fn replace<'t>(
     name: &[u8],
     lock: &[u8],
@@ -86,12 +90,15 @@ fn replace<'t>(
         os::fail(name);
         return false;
     }
-    if !store(fd, live, i, a, down, up, manager, rights) {
+    let came = put_in_place(name, lock, fd, live, i, a, down, up, manager, rights);
+    if came != PLACED {
         give_up(fd, lock);
-        os::fail(lock);
+        say_unplaced(name, lock, came);
         return false;
     }
-    renamed(name, lock, fd, folder)
+    libc::close(fd);
+    sync_folder(name, folder);
+    true
 }
 
 // Why a file could not be read.
@@ -200,26 +207,29 @@ fn change_by_copy<'t>(
     )
 }
 
-// Whether a board was read; where not, the lock goes and it is said why.
-fn is_read(name: &[u8], lock: &[u8], fd: i32, was: Loaded) -> bool {
-    if was.trouble != 0 {
-        give_up(fd, lock);
-        say_trouble(name, was.trouble);
+// Whether there is a lock and a board was read; where not, the lock goes and it is said why.
+fn is_read(name: &[u8], lock: &[u8], begun: Begun) -> bool {
+    let fd = begun.fd;
+    if fd < 0 {
         return false;
     }
-    if was.number != 0 {
+    if begun.trouble != 0 {
         give_up(fd, lock);
-        say_file_refused(was.number);
+        say_trouble(name, begun.trouble);
+        return false;
+    }
+    if begun.number != 0 {
+        give_up(fd, lock);
+        say_file_refused(begun.number);
         return false;
     }
     true
 }
 
-// Reads the board into these parts, and decides the commands on it.
+// Takes the lock, reads the board into these parts, and decides the commands on it.
 fn change_read(
     name: &[u8],
     lock: &[u8],
-    fd: i32,
     live: &mut u64,
     i: &mut [u64; 64],
     a: &mut [u64; 64],
@@ -230,14 +240,14 @@ fn change_read(
     text: &[u8],
     many: bool,
 ) {
-    let was = load(name, fd, live, i, a, down, up, manager, rights);
-    if !is_read(name, lock, fd, was) {
+    let begun = begin(name, lock, live, i, a, down, up, manager, rights);
+    if !is_read(name, lock, begun) {
         return;
     }
     if change_by_copy(
         name,
         lock,
-        fd,
+        begun.fd,
         *live,
         i,
         a,
@@ -255,10 +265,6 @@ fn change_read(
 
 // Decides the commands of a text on the board in the file, and leaves the new board there.
 fn change(name: &[u8], lock: &[u8], text: &[u8], many: bool) {
-    let fd = take(lock);
-    if fd < 0 {
-        return;
-    }
     let mut live: u64 = 0;
     let mut i = [0u64; 64];
     let mut a = [0u64; 64];
@@ -269,7 +275,6 @@ fn change(name: &[u8], lock: &[u8], text: &[u8], many: bool) {
     change_read(
         name,
         lock,
-        fd,
         &mut live,
         &mut i,
         &mut a,

@@ -16,8 +16,6 @@ pub const RIGHTS_MARK: [u8; 2] = *b"HR";
 pub const TRAILER: usize = 6;
 
 pub const RIGHTS_TRAILER: usize = 8;
-// the bytes of the longest file without rights bytes
-const PLAIN_FILE: usize = Board::ROLES + 3 * Board::EDGES + TRAILER;
 
 pub enum Framed {
     Good {
@@ -67,7 +65,7 @@ fn plain_frame(file: &[u8]) -> Framed
     ensures { λ r. ⌜ Framing (now (file .entry)) r ⌝ }
 {
     let n = file.len();
-    if PLAIN_FILE < n {
+    if Board::PLAIN_FILE < n {
         return Framed::Bad;
     }
     let body = n - TRAILER;

@@ -9,7 +9,7 @@ use native.Mathlib.Numerals.{add-one}
 use native.Mathlib.Omega.{arith}
 use lib.ListN.{length, getD, take, drop, length-take, length-drop, drop-of-length-le}
 use lib.Seq.{drop-cons}
-use Rattle.wording.specs.Texts.{separates, piece, longer, pieces, filled, wordAt}
+use Rattle.wording.specs.Texts.{separates, piece, longer, pieces, filled, wordAt, beginnings, wordStart}
 
 -- ---- where a piece ends
 
@@ -94,36 +94,60 @@ unfolding filled
 filled-some [] ps h = absurd (not-suc-le-zero h)
 filled-some (b ∷ p) ps h = refl
 
+begins-some : (at : ℕ) (p : List ℕ) (ps : List (List ℕ)) → 0 < length p → beginnings at (p ∷ ps) ≡ at ∷ beginnings (at + length p + 1) ps
+unfolding beginnings
+begins-some at [] ps h = absurd (not-suc-le-zero h)
+begins-some at (b ∷ p) ps h = refl
+
 -- the word at k of the line is the one at `left` of what lies from `from` on
 pub record Looking (line : List ℕ) (k left from : ℕ) : Type 0 where
   pub within : from ≤ length line + 1
   pub same : getD (filled (restOf 32 line from)) left [] ≡ wordAt line k
+  pub begins : getD (beginnings from (restOf 32 line from)) left 0 ≡ wordStart line k
 
 pub look-start : (line : List ℕ) (k : ℕ) → Looking line k k 0
 unfolding restOf
-look-start line k = record { within = zero-le; same = refl }
+look-start line k = record { within = zero-le; same = refl; begins = refl }
 
 module _ {line : List ℕ} {k left from : ℕ} (l : Looking line k left from) where
-  pub look-over : length line < from → [] ≡ wordAt line k
-  unfolding filled
-  look-over h = rw (rest-over 32 line from h) at (l .same)
+  pub look-over : length line < from → ([] ≡ wordAt line k) × (0 ≡ wordStart line k)
+  unfolding filled beginnings
+  look-over h = (rw (rest-over 32 line from h) at (l .same), rw (rest-over 32 line from h) at (l .begins))
 
   module _ {end : ℕ} (t : Turn 32 line from end) where
+    none-begins : end ≤ from → beginnings from (restOf 32 line from) ≡ beginnings (end + 1) (restOf 32 line (end + 1))
+    unfolding beginnings
+    none-begins h =
+        let none : end - from ≡ 0 = omega arith in
+        let next : from + 1 ≡ end + 1 = omega arith in
+        ap (beginnings from) (t .cut) ∙ rw none (ap (λ (n : ℕ). beginnings n (restOf 32 line (end + 1))) next)
+
     pub look-none : end ≤ from → Looking line k left (end + 1)
     unfolding filled
-    look-none h = record { within = omega arith; same = rw (t .cut, none) at (l .same) }
+    look-none h = record { within = omega arith; same = rw (t .cut, none) at (l .same); begins = rw (none-begins h) at (l .begins) }
       where
         none : end - from ≡ 0
         none = omega arith
 
-    some : from < end → filled (restOf 32 line from) ≡ take (end - from) (drop from line) ∷ filled (restOf 32 line (end + 1))
-    some h = ap filled (t .cut) ∙ filled-some (take (end - from) (drop from line)) (restOf 32 line (end + 1)) (simp (length-take, length-drop) (omega arith))
+    -- a piece with a byte, and where it begins
+    long : length (take (end - from) (drop from line)) ≡ end - from
+    long = simp (length-take, length-drop) (omega arith)
 
-    pub look-here : from < end → left ≡ 0 → take (end - from) (drop from line) ≡ wordAt line k
-    look-here h z = rw (some h, z) at (l .same)
+    some : from < end → filled (restOf 32 line from) ≡ take (end - from) (drop from line) ∷ filled (restOf 32 line (end + 1))
+    some h = ap filled (t .cut) ∙ filled-some (take (end - from) (drop from line)) (restOf 32 line (end + 1)) (omega (arith, long))
+
+    some-begins : from < end → beginnings from (restOf 32 line from) ≡ from ∷ beginnings (end + 1) (restOf 32 line (end + 1))
+    some-begins h =
+        let next : from + length (take (end - from) (drop from line)) + 1 ≡ end + 1 = omega (arith, long) in
+        ap (beginnings from) (t .cut)
+        ∙ begins-some from (take (end - from) (drop from line)) (restOf 32 line (end + 1)) (omega (arith, long))
+        ∙ ap (λ (n : ℕ). from ∷ beginnings n (restOf 32 line (end + 1))) next
+
+    pub look-here : from < end → left ≡ 0 → (take (end - from) (drop from line) ≡ wordAt line k) × (from ≡ wordStart line k)
+    look-here h z = (rw (some h, z) at (l .same), rw (some-begins h, z) at (l .begins))
 
     pub look-past : from < end → (left ≡ 0 → ⊥) → Looking line k (left - 1) (end + 1)
-    look-past h z = record { within = omega arith; same = rw (some h, more) at (l .same) }
+    look-past h z = record { within = omega arith; same = rw (some h, more) at (l .same); begins = rw (some-begins h, more) at (l .begins) }
       where
         more : left ≡ suc (left - 1)
         more = omega arith

@@ -1,11 +1,12 @@
 -- Text as people type it: bytes, the pieces between separators, and the words of a line.
+use mathlib.Core.Path.{_≡_}
 use mathlib.Core.Bool.{Bool, true, false, cond, _&&_, _||_}
 use mathlib.Core.List.{List, [], _∷_}
-use Prim.Native.Nat.{ℕ, zero, suc}
+use Prim.Native.Nat.{ℕ, zero, suc, _+_}
 use Prim.Native.Char.{code}
 use Prim.Native.String.{String, len, charAt}
 use lib.Dec.{eqb}
-use lib.ListN.{getD}
+use lib.ListN.{length, getD}
 
 -- the bytes of a name; all names here are ASCII
 abbrev pub bytesFrom : ℕ → ℕ → String → List ℕ
@@ -53,3 +54,17 @@ words line = filled (pieces 32 line)
 
 abbrev pub wordAt : List ℕ → ℕ → List ℕ
 wordAt line k = getD (words line) k []
+
+-- where the pieces that have a byte begin; the first piece lies at `at`, and a separator between any two
+unfoldable pub beginnings : ℕ → List (List ℕ) → List ℕ
+beginnings at [] = []
+beginnings at ([] ∷ ps) = beginnings (at + 1) ps
+beginnings at ((b ∷ p) ∷ ps) = at ∷ beginnings (at + length (b ∷ p) + 1) ps
+
+-- where in the line the word at a place begins; 0 past the last word
+abbrev pub wordStart : List ℕ → ℕ → ℕ
+wordStart line k = getD (beginnings 0 (pieces 32 line)) k 0
+
+-- The word is a part of the caller's own line: `part-at` and `line-at` are where the two lie in memory, a block and a place in it.
+abbrev pub WordOf : List ℕ → ℕ × ℕ → ℕ → List ℕ → ℕ × ℕ → Type 0
+WordOf line line-at k part part-at = (part ≡ wordAt line k) × (part-at .0 ≡ line-at .0) × (part-at .1 ≡ line-at .1 + wordStart line k)

@@ -3,7 +3,7 @@ ghost use mathlib.Core.Path.{_≡_};
 ghost use mathlib.Core.Bool.{_&&_, _||_};
 ghost use Prim.Native.Nat.{_+_};
 ghost use lib.ListN.{length, drop};
-ghost use Rattle.wording.specs.Texts.{separates, piece, wordAt};
+ghost use Rattle.wording.specs.Texts.{separates, piece, WordOf};
 
 // with it the tab and the return separate as well
 pub const BLANK: u8 = b' ';
@@ -39,9 +39,10 @@ pub fn piece_end(text: &[u8], from: usize, sep: u8) -> usize
     at
 }
 
-// The word at a place of a line, counted from 0; it has no byte where the line has no such word.
+// The word at a place of a line, counted from 0, as a part of the line; it has no byte, and lies at the line's start, where the line has no
+// such word.
 pub fn word(line: &[u8], k: usize) -> &[u8]
-    ensures { λ r. ⌜ now r ≡ wordAt (now (line .entry)) k ⌝ }
+    ensures { λ r. ⌜ WordOf (now (line .entry)) (line .entry .ptr) k (now r) (r .ptr) ⌝ }
 {
     let n = line.len();
     let mut left = k;

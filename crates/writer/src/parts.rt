@@ -102,7 +102,7 @@ fn put_edges<'t>(i: &'t [u64; 64], a: &'t [u64; 64], out: &mut [u8])
     }
 }
 
-// The last six bytes of a file, by its distances of edge records and of role bytes and by its very last byte.
+// The last six bytes of a file, by its distances of edge records and of role bytes and by its mark, the very last two.
 fn put_trailer(edges: usize, roles: usize, mark: [u8; 2], out: &mut [u8])
     requires { ⌜ (edges < 65536) × (roles < 65536) × (6 ≤ length (now out)) ⌝ }
     ensures { λ _. ⌜ Put (lastSix edges roles mark) (now (out .entry)) (now (out .exit)) ⌝ }

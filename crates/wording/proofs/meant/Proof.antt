@@ -8,13 +8,13 @@ use Rattle.wording.proofs.meant.Statement.{statement}
 use Rattle.wording.proofs.meant.Tie as tie
 
 actor-is : (c : tie.After-role) → roleOf (wordAt (c .before .before .before .args .line .now) 0) ≡ c .role .result
-actor-is c = sym (c .role .ensures ∙ ap roleOf (c .before .word .ensures))
+actor-is c = sym (c .role .ensures ∙ ap roleOf (c .before .word .ensures .0))
 
 code-is : (c : tie.After-code) → codeOf (wordAt (c .before .before .before .before .before .before .args .line .now) 1) ≡ c .code .result
-code-is c = sym (c .code .ensures ∙ ap codeOf (c .before .word2 .ensures))
+code-is c = sym (c .code .ensures ∙ ap codeOf (c .before .word2 .ensures .0))
 
 role-is : (c : tie.After-role2) → roleOf (wordAt (c .before .before .before .before .before .before .before .before .before .args .line .now) 2) ≡ c .role2 .result
-role-is c = sym (c .role2 .ensures ∙ ap roleOf (c .before .word3 .ensures))
+role-is c = sym (c .role2 .ensures ∙ ap roleOf (c .before .word3 .ensures .0))
 
 word-requires : tie.Need-word-requires
 word-requires c κs = search needs

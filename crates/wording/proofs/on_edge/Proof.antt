@@ -8,10 +8,10 @@ use Rattle.wording.proofs.on_edge.Statement.{statement}
 use Rattle.wording.proofs.on_edge.Tie as tie
 
 junior-is : (c : tie.After-role) → roleOf (wordAt (c .before .before .before .args .line .now) 3) ≡ c .role .result
-junior-is c = sym (c .role .ensures ∙ ap roleOf (c .before .word .ensures))
+junior-is c = sym (c .role .ensures ∙ ap roleOf (c .before .word .ensures .0))
 
 kind-is : (c : tie.After-kind) → kindOf (wordAt (c .before .before .before .before .before .before .args .line .now) 4) ≡ c .kind .result
-kind-is c = sym (c .kind .ensures ∙ ap kindOf (c .before .word2 .ensures))
+kind-is c = sym (c .kind .ensures ∙ ap kindOf (c .before .word2 .ensures .0))
 
 word-requires : tie.Need-word-requires
 word-requires c κs = search needs

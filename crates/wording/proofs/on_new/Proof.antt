@@ -30,20 +30,20 @@ added-requires : tie.Need-added-requires Inv-loop μ-loop
 added-requires c κs = search needs
 
 returns : tie.Need-returns Inv-loop μ-loop
-returns c = ap Means (c .added .ensures) ∙ name-none (c .before .before .before .before .loop .inv) (c .before .before .before .loop-test .taken) (c .before .before .word .ensures) (c .before .if1 .taken)
+returns c = ap Means (c .added .ensures) ∙ name-none (c .before .before .before .before .loop .inv) (c .before .before .before .loop-test .taken) (c .before .before .word .ensures .0) (c .before .if1 .taken)
 
 set-name-requires : tie.Need-set-name-requires Inv-loop μ-loop
 set-name-requires c κs = search needs
 
 returns-2 : tie.Need-returns-2 Inv-loop μ-loop
-returns-2 c = name-high (c .before .before .before .before .before .loop .inv) (c .before .before .before .before .loop-test .taken) (c .before .before .before .word .ensures) (c .before .before .if1 .left) (c .before .set-name .ensures) (c .if2 .taken)
+returns-2 c = name-high (c .before .before .before .before .before .loop .inv) (c .before .before .before .before .loop-test .taken) (c .before .before .before .word .ensures .0) (c .before .before .if1 .left) (c .before .set-name .ensures) (c .if2 .taken)
 
 set-at-requires : tie.Need-set-at-requires Inv-loop μ-loop
 set-at-requires c κs = search needs
 
 returns-3 : tie.Need-returns-3 Inv-loop μ-loop
 returns-3 c = let w = c .before .before .before .before .before in
-    name-twice (w .before .before .loop .inv) (w .before .loop-test .taken) (w .word .ensures) (c .before .before .before .before .if1 .left) (c .before .before .before .set-name .ensures) (λ z. c .if3 .taken (c .before .set-at .ensures ∙ z))
+    name-twice (w .before .before .loop .inv) (w .before .loop-test .taken) (w .word .ensures .0) (c .before .before .before .before .if1 .left) (c .before .before .before .set-name .ensures) (λ z. c .if3 .taken (c .before .set-at .ensures ∙ z))
 
 add-word : tie.Need-add-word Inv-loop μ-loop
 add-word c = omega arith
@@ -60,8 +60,8 @@ add-t16 c = omega arith
 returns-4 : tie.Need-returns-4 Inv-loop μ-loop
 returns-4 c = let e = c .before .before .before .before in
     let w = e .before .before .before .before .before in
-    name-bad (w .before .before .loop .inv) (w .before .loop-test .taken) (w .word .ensures) (e .before .before .before .before .if1 .left) (e .before .before .before .set-name .ensures)
-    (e .before .before .if2 .left) (sym (e .before .set-at .ensures) ∙ e .if3 .left) (c .before .before .members .ensures ∙ ap (membersOf false) (c .before .before .before .word2 .ensures)) (not-true (c .before .before .members .result .fine) (c .if4 .taken))
+    name-bad (w .before .before .loop .inv) (w .before .loop-test .taken) (w .word .ensures .0) (e .before .before .before .before .if1 .left) (e .before .before .before .set-name .ensures)
+    (e .before .before .if2 .left) (sym (e .before .set-at .ensures) ∙ e .if3 .left) (c .before .before .members .ensures ∙ ap (membersOf false) (c .before .before .before .word2 .ensures .0)) (not-true (c .before .before .members .result .fine) (c .if4 .taken))
 
 with-set-requires : tie.Need-with-set-requires Inv-loop μ-loop
 with-set-requires c κs = search needs
@@ -76,8 +76,8 @@ loop-again : tie.Need-loop-again Inv-loop μ-loop
 loop-again c = let e = c .before .before .before .before .before in
     let w = e .before .before .before .before .before in
     rw (c .with-set .ensures)
-    (name-next (w .before .before .loop .inv) (w .before .loop-test .taken) (w .word .ensures) (e .before .before .before .before .if1 .left) (e .before .before .before .set-name .ensures)
-    (e .before .before .if2 .left) (sym (e .before .set-at .ensures) ∙ e .if3 .left) (c .before .before .before .members .ensures ∙ ap (membersOf false) (c .before .before .before .before .word2 .ensures)) (not-false (c .before .before .before .members .result .fine) (c .before .if4 .left)))
+    (name-next (w .before .before .loop .inv) (w .before .loop-test .taken) (w .word .ensures .0) (e .before .before .before .before .if1 .left) (e .before .before .before .set-name .ensures)
+    (e .before .before .if2 .left) (sym (e .before .set-at .ensures) ∙ e .if3 .left) (c .before .before .before .members .ensures ∙ ap (membersOf false) (c .before .before .before .before .word2 .ensures .0)) (not-false (c .before .before .before .members .result .fine) (c .before .if4 .left)))
 
 added-requires-2 : tie.Need-added-requires-2 Inv-loop μ-loop
 added-requires-2 c κs = search needs

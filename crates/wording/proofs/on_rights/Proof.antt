@@ -18,7 +18,7 @@ rights-requires c κs = search needs
 returns : tie.Need-returns
 unfolding rightsFrom
 returns c = let r = c .before .before .rights in
-    rw (← (r .ensures ∙ ap rightsOf (c .before .before .before .word .ensures)), not-true (r .result .fine) (c .if1 .taken))
+    rw (← (r .ensures ∙ ap rightsOf (c .before .before .before .word .ensures .0)), not-true (r .result .fine) (c .if1 .taken))
 
 cast-plain : tie.Need-cast-plain
 cast-plain c = let e = ap (λ (r : Listed). r .set) (c .before .before .rights .ensures) in omega (arith, rights-few (c .before .before .before .word .result .now))
@@ -33,7 +33,7 @@ returns-2 : tie.Need-returns-2
 unfolding rightsFrom
 returns-2 c = let r = c .before .before .before .before .rights in
     c .ended .ensures
-    ∙ rw (c .before .plain .ensures, ← (r .ensures ∙ ap rightsOf (c .before .before .before .before .before .word .ensures)), not-false (r .result .fine) (c .before .before .if1 .left))
+    ∙ rw (c .before .plain .ensures, ← (r .ensures ∙ ap rightsOf (c .before .before .before .before .before .word .ensures .0)), not-false (r .result .fine) (c .before .before .if1 .left))
 
 pub on-rights-spec : {M : Type 1} → statement M
 on-rights-spec =

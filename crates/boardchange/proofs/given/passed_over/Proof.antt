@@ -7,13 +7,13 @@ word-requires : tie.Need-word-requires
 word-requires c κs = search needs
 
 returns : tie.Need-returns
-returns c = passed-here _ (c .before .word .ensures) (c .if1 .taken)
+returns c = passed-here _ (c .before .word .ensures .0) (c .if1 .taken)
 
 shared-slice-read-result : tie.Need-shared-slice-read-result
 shared-slice-read-result c = search needs
 
 returns-2 : tie.Need-returns-2
-returns-2 c = passed-not _ (c .before .before .word .ensures) (c .before .if1 .left)
+returns-2 c = passed-not _ (c .before .before .word .ensures .0) (c .before .if1 .left)
 
 pub passed-over-spec : {M : Type 1} → statement M
 passed-over-spec = tie.close (tie.spec word-requires returns shared-slice-read-result returns-2)

@@ -8,8 +8,8 @@ Inv-loop lock left₀ fd₀ left fd = Unit {0}
 abbrev μ-loop : tie.MeasureT-loop
 μ-loop lock left₀ fd₀ left fd = left
 
-create-requires : tie.Need-create-requires Inv-loop μ-loop
-create-requires c κs = search needs
+make-requires : tie.Need-make-requires Inv-loop μ-loop
+make-requires c κs = search needs
 
 loop-holds : tie.Need-loop-holds Inv-loop μ-loop
 loop-holds c = tt
@@ -23,8 +23,8 @@ returns c = search needs
 nap-requires : tie.Need-nap-requires Inv-loop μ-loop
 nap-requires c κs = search needs
 
-create-requires-2 : tie.Need-create-requires-2 Inv-loop μ-loop
-create-requires-2 c κs = search needs
+make-requires-2 : tie.Need-make-requires-2 Inv-loop μ-loop
+make-requires-2 c κs = search needs
 
 sub-left : tie.Need-sub-left Inv-loop μ-loop
 sub-left c = search needs
@@ -44,12 +44,12 @@ taken-spec =
     (tie.spec
     Inv-loop
     μ-loop
-    create-requires
+    make-requires
     loop-holds
     errno-requires
     returns
     nap-requires
-    create-requires-2
+    make-requires-2
     sub-left
     loop-less
     loop-again

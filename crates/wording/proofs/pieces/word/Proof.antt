@@ -1,3 +1,4 @@
+use mathlib.Core.Path.{refl}
 use mathlib.Core.Logic.{⊎-elim}
 use Prim.Native.Nat.{_+_, _-_}
 use native.Mathlib.Omega.{arith}
@@ -32,7 +33,9 @@ part-result-end : tie.Need-part-result-end Inv-loop μ-loop
 part-result-end c = cut (c .before .before) .high
 
 returns : tie.Need-returns Inv-loop μ-loop
-returns c = look-here (c .before .before .before .before .before .loop .inv) (cut (c .before .before .before)) (c .before .before .if1 .taken) (c .before .if2 .taken)
+returns c =
+    let here = look-here (c .before .before .before .before .before .loop .inv) (cut (c .before .before .before)) (c .before .before .if1 .taken) (c .before .if2 .taken) in
+    (here .0, refl, omega (arith, here .1))
 
 sub-left : tie.Need-sub-left Inv-loop μ-loop
 sub-left c = omega arith
@@ -59,7 +62,7 @@ part-result-end-2 : tie.Need-part-result-end-2 Inv-loop μ-loop
 part-result-end-2 c = search needs
 
 returns-2 : tie.Need-returns-2 Inv-loop μ-loop
-returns-2 c = look-over (c .before .before .loop .inv) (c .before .loop-test .left)
+returns-2 c = let none = look-over (c .before .before .loop .inv) (c .before .loop-test .left) in (none .0, refl, omega (arith, none .1))
 
 pub word-spec : {M : Type 1} → statement M
 word-spec =
