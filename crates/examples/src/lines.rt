@@ -11,16 +11,20 @@ use hierarchy::working::work_out;
 use runs::run_by_value;
 use sets::has;
 
-fn text(s: &[u8]) {
+pub(crate) fn text(s: &[u8]) {
     io::write_all(1, s);
 }
 
-fn number(n: u32) {
+pub(crate) fn number(n: u32) {
     io::print_decimal(1, n as u64);
 }
 
+pub(crate) fn line_end() {
+    text(b"\n");
+}
+
 // The number of a refusal, at the end of a line.
-fn refused(n: u8) {
+pub(crate) fn refused(n: u8) {
     text(b"refused ");
     number(n as u32);
     text(b"\n");

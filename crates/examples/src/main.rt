@@ -16,6 +16,7 @@ use exampleboards::remove_role;
 use exampleboards::take_rights;
 use exampleboards::w;
 
+mod files;
 mod lines;
 
 // P: who derives whom, scopes, line managers, steps.
@@ -244,6 +245,29 @@ fn an_evening() {
     lines::same(b"P after a run that is too long is P", long, b);
 }
 
+// Document 01's file: the edge records of a senior with an edge, of one without, and of what is no live role or none at all; and the board in it.
+fn on_the_file() {
+    let file = files::EXAMPLE;
+    files::records(&file, 0);
+    files::records(&file, 1);
+    files::records(&file, 2);
+    files::records(&file, 3);
+    files::records(&file, 64);
+    files::records(&file[1..], 0);
+    files::rewritten(&file, 5);
+    files::rewritten(&file, 9);
+    files::rewritten(&file, 10);
+    files::rewritten(&file[..14], 0);
+}
+
+// Kinds along a path: looking at neighbours alone would miss that I, IA, A joins to 0.
+fn along_a_path() {
+    files::path(&[1, 3, 2]);
+    files::path(&[2, 3, 1]);
+    files::path(&[2, 1, 2]);
+    files::path(&[3, 2, 3]);
+}
+
 fn main() {
     questions_on_p();
     changes_on_p();
@@ -260,4 +284,6 @@ fn main() {
     coming_and_going();
     using_rights();
     an_evening();
+    on_the_file();
+    along_a_path();
 }
