@@ -2,8 +2,14 @@
  *
  * A claim or a release decides by itself and changes the list in the same step; refused, it leaves the list as it was. So
  * of two members who may claim one open job the second is told 14, whatever either of them looked up before. The list and
- * the board are the caller's: whoever has several threads or processes lets one call at a time have the list. Whether the
- * caller is that member, and may act in that role, isn't looked at: find that out first, and take neither from a form.
+ * the board are the caller's: whoever has several threads or processes lets one call at a time have the list. Who the
+ * member is, and whether they may act in that role, the caller is believed: take both from the login, and never from a form.
+ *
+ * What a command does on the board touches no job. Where the role of a job is removed, every claim and every release of it is
+ * 3, its holder's too, until a role of that number lives again; then it is that role's job, whoever that role is meant for.
+ * So before removing a role, look for jobs under it: have the held ones released, and write another role into role[j]. For a
+ * job that is under a removed role already, write a live one there; its holder, or a coordinator with that role in its scope,
+ * can then release it.
  *
  * Of pointers it asks what board.h asks: no null pointer, not even with n 0, and the list may overlap neither the board nor
  * `roles`, so a list can't be begun again from its own row of roles; nor may one row overlap another.
