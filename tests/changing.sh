@@ -8,7 +8,8 @@ trap 'rm -rf "$work"' EXIT
 cd "$work"
 wrong=0 count=0
 
-# Runs the words after --; the status, standard output and whether standard error says this (a pattern) are to be so. No lock may be left.
+# Runs the words after --; the status, standard output and whether standard error says this (a pattern) are to be so. No lock may be left, and
+# nothing temporary.
 expect() { # NAME STATUS SAID TROUBLE -- WORDS..
     name=$1 status=$2 said=$3 trouble=$4
     shift 5
@@ -27,7 +28,7 @@ typed() { # NAME STATUS SAID TROUBLE -- WORDS..: the same, with the file `input`
 
 judge() {
     count=$((count + 1))
-    left=$(ls "$work" "$work/tmp" | grep -e '\.lock$' -e '^tmp\.' || :)
+    left=$(find . -name '*.lock' -o -name 'tmp.*' -o -name '.board-queue.??????')
     [ "$got" -eq "$status" ] && [ "$(cat said)" = "$said" ] && [ -z "$left" ] &&
         if [ -n "$trouble" ]; then grep -q -- "$trouble" trouble; else [ ! -s trouble ]; fi && return
     echo "tests: $name: status $got (wanted $status), said '$(cat said)' (wanted '$said'), trouble '$(cat trouble)' (wanted '$trouble'), left '$left'" >&2
@@ -135,6 +136,10 @@ expect 'a change' 0 'done' '' -- "$change" my.board 1 remove-role 2
 [ "$(stat -c %a my.board)" = 640 ] || { echo "tests: the file's mode was lost" >&2; wrong=1; }
 touch my.board.lock
 expect 'a lock that a dead change left' 0 'done' '' -- "$change" my.board 1 add-role 2 i-seniors 1
+touch my.board.lock
+exec 8<my.board.lock
+expect 'a lock that a dead change left, and that somebody reads' 0 'done' '' -- "$change" my.board 1 add-role 5 i-seniors 1
+exec 8<&-
 cp my.board 'my own.board'
 exec 8>'my own.board.lock'
 got=0
@@ -146,6 +151,118 @@ rm 'my own.board.lock'
 got=0
 "$change" my.board 1 remove-role 2 >/dev/full 2>trouble || got=$?
 [ "$got" -eq 74 ] && [ ! -e my.board.lock ] || { echo "tests: answers that can't be written: status $got, trouble '$(cat trouble)'" >&2; wrong=1; }
+
+# the queue
+hold() { # USER NAME: a lock on what is called so, by the user whom these words make, until let_go
+    $1 sh -c 'exec 9<"$0" && flock 9 && echo held && exec sleep 30 >/dev/null' "$2" >ready &
+    holder=$!
+    read -r held <ready || { echo "tests: nobody could hold $2" >&2; wrong=1; }
+}
+
+let_go() {
+    kill "$holder" || :
+    wait "$holder" 2>/dev/null || :
+}
+
+fits() { # FOLDER MODE OWNER:GROUP: those of its queue
+    is=$(stat -c '%a %u:%g' "$1/.board-queue" || :)
+    [ "$is" = "$2 $3" ] || { echo "tests: the queue in $1 is $is (wanted $2 $3)" >&2; wrong=1; }
+}
+
+mkfifo ready
+mkdir piped unlinked without-links
+chmod 755 unlinked
+mkfifo piped/.board-queue
+expect 'a queue that is a pipe' 2 '' 'piped/.board-queue is no regular file' -- timeout 9 "$change" piped/my.board found
+printf '#!/bin/sh\nexit 1\n' >without-links/ln
+chmod +x without-links/ln
+expect 'no hard links' 0 'done' '' -- env PATH="$work/without-links:$PATH" "$change" unlinked/my.board found
+fits unlinked 600 "$(stat -c %u:%g unlinked)"
+
+# Who waits by a queue that is taken away may not go on beside those who wait by the next.
+hold '' unlinked/.board-queue
+"$change" unlinked/my.board 0 add-role 1 i-seniors 0 >said 2>trouble </dev/null &
+waits=$! tenths=0
+until [ "/proc/$waits/fd/9" -ef unlinked/.board-queue ] || [ "$tenths" -ge 50 ]; do
+    sleep 0.1
+    tenths=$((tenths + 1))
+done
+rm -f unlinked/.board-queue
+let_go
+name='a queue that is removed' status=75 said='' trouble='busy: somebody removed ./unlinked/.board-queue' got=0
+wait "$waits" || got=$?
+judge
+
+# Users of one folder, by numbers: two of its group, and one who may only read it.
+first='setpriv --reuid 20001 --regid 20001 --groups 30000 --inh-caps=-all'
+second='setpriv --reuid 20002 --regid 20002 --groups 30000 --inh-caps=-all'
+outsider='setpriv --reuid 20003 --regid 20003 --clear-groups --inh-caps=-all'
+
+lay() { # FOLDER MODE OWNER: a folder of that group, with a board that the group may change
+    mkdir "$1"
+    cp "$top/boards/p.board" "$1/my.board"
+    chown "$3:30000" "$1" "$1/my.board"
+    chmod "$2" "$1"
+    chmod 664 "$1/my.board"
+}
+
+by_two() { # FOLDER MODE OWNER USER NUMBER OTHER: the queue is made by the user of that number and serves the other too
+    lay "$1" "$2" "$3"
+    expect "the first one in $1" 0 'done' '' -- $4 "$change" "$1/my.board" 1 remove-role 2
+    expect "the second one in $1" 0 'done' '' -- $6 "$change" "$1/my.board" 1 add-role 2 i-seniors 1
+    fits "$1" 660 "$5:30000"
+}
+
+by_several() {
+    by_two handed-on 2775 0 "$first" 20001 "$second"
+    by_two handed-on-too 2775 0 "$second" 20002 "$first"
+    by_two given 775 20001 "$first" 20001 "$second"
+    by_two given-too 775 20001 "$second" 20002 "$first"
+
+    expect 'who may only read the folder' 2 '' 'change: this user may not write to the folder ./given' -- $outsider "$change" given/my.board 1 remove-role 2
+    expect 'the queue, opened by who may only read the folder' 1 '' . -- $outsider cat given/.board-queue
+    hold "$outsider" given
+    expect 'a reader who holds the folder' 0 'done' '' -- env CHANGE_PATIENCE=1 $first "$change" given/my.board 1 remove-role 2
+    let_go
+    hold "$second" given/.board-queue
+    expect 'one of the group who holds the queue' 75 '' '^busy: ' -- env CHANGE_PATIENCE=1 $first "$change" given/my.board 1 add-role 2 i-seniors 1
+    let_go
+
+    # an owner who isn't in the folder's group
+    lay ungiven 775 20003
+    expect 'a group that cannot be given' 2 '' "change: ./ungiven/.board-queue needs the folder's group" -- $outsider "$change" ungiven/my.board 1 remove-role 2
+    [ ! -e ungiven/.board-queue ] || { echo "tests: there is a queue without its group" >&2; wrong=1; }
+    expect 'root, who can give it' 0 'done' '' -- "$change" ungiven/my.board 1 remove-role 2
+    fits ungiven 660 20003:30000
+    expect 'the owner after root' 0 'done' '' -- $outsider "$change" ungiven/other.board found
+    expect 'one of the group after root' 0 'done' '' -- $first "$change" ungiven/my.board 1 add-role 2 i-seniors 1
+    lay shut 2775 20003
+    expect 'one of the group before the owner' 0 'done' '' -- $first "$change" shut/my.board 1 remove-role 2
+    expect 'the owner after one of the group' 2 '' "change: this user may write to ./shut but can't open ./shut/.board-queue" -- $outsider "$change" shut/other.board found
+    lay open 2775 20003
+    expect 'the owner before one of the group' 0 'done' '' -- $outsider "$change" open/other.board found
+    expect 'one of the group after the owner' 0 'done' '' -- $first "$change" open/my.board 1 remove-role 2
+
+    # a folder of all, and one of one user's where root comes first
+    mkdir everybodys
+    chmod 1777 everybodys
+    expect 'one in a folder of all' 0 'done' '' -- $first "$change" everybodys/my.board found
+    fits everybodys 666 20001:20001
+    expect 'another in a folder of all' 0 'done' '' -- $outsider "$change" everybodys/other.board found
+    lay own 755 20001
+    expect "root in another's folder" 0 'done' '' -- "$change" own/other.board found
+    fits own 600 20001:30000
+    expect "its owner after root" 0 'done' '' -- $first "$change" own/my.board 1 remove-role 2
+    expect 'the group of a folder that only its owner may write to' 2 '' 'may not write to the folder ./own' -- $second "$change" own/my.board 1 remove-role 2
+}
+
+if [ "$(id -u)" -ne 0 ] || ! command -v setpriv >/dev/null; then
+    echo "tests: several users in one folder: skipped, since this takes root, and setpriv, of util-linux"
+elif ! { chmod 755 . && chmod 1777 tmp && $first sh -c 'cd "$1" && [ -x "$0/target/bin/boardchange" ] && "$0/start" boardchange' "$top" "$work"; } >/dev/null 2>&1; then
+    echo "tests: several users in one folder: skipped, since another user can't run $top/start in $work"
+else
+    by_several
+fi
 
 # The order in which a change goes to the disk, which no crash of ours can show: the lock (L), the old board (R), the new one written (W) and
 # synced (S), the rename (M), the folder synced (S), and only then the answer (A).
