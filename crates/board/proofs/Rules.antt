@@ -8,7 +8,7 @@ use native.Mathlib.Omega.{arith}
 use lib.Dec.{eqb, ltb}
 use borrow.Author.Tests.{eqb-false, ltb-true, not-true}
 use Rattle.sets.proofs.Bools.{and-left, and-right}
-use Rattle.hierarchy.specs.First.{First}
+use Rattle.hierarchy.specs.First.{First, Passed}
 
 -- a row that says "not P" passes: P
 pub stable : {P : Type 0} → Dec P → ((P → ⊥) → ⊥) → P
@@ -19,11 +19,6 @@ stable (no n) h = absurd (h n)
 abbrev pub numbered : List (ℕ × Type 0) → Bool
 numbered [] = true
 numbered (rule ∷ rest) = ltb 0 (rule .0) && numbered rest
-
--- every condition fails
-abbrev pub Passed : List (ℕ × Type 0) → Type 0
-Passed [] = Unit {0}
-Passed (rule ∷ rest) = (rule .1 → ⊥) × Passed rest
 
 pub first-done : (rules : List (ℕ × Type 0)) → numbered rules ≡ true → First rules 0 → Passed rules
 unfolding First

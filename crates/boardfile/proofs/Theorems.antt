@@ -15,12 +15,12 @@ use Rattle.sets.proofs.Bools.{not-so}
 use Rattle.hierarchy.specs.Tables.{Tables, Shaped, kind}
 use Rattle.hierarchy.specs.Words.{Loops, Managed, Sound}
 use Rattle.hierarchy.specs.Words.{Way.edge}
-use Rattle.hierarchy.specs.First.{First}
+use Rattle.hierarchy.specs.First.{First, Passed}
 use Rattle.hierarchy.proofs.FirstLaws.{first-unique, none}
 use Rattle.board.specs.Boards.{tablesOf, SoundBoard}
 use Rattle.board.specs.Rights.{foundingRights, RightsFit}
 use Rattle.board.specs.declared.Board.{Board}
-use Rattle.board.proofs.Rules.{Passed, first-done, first-next}
+use Rattle.board.proofs.Rules.{first-done, first-next}
 use Rattle.frames.specs.Frames.{EndsHH, EndsHR, BadFrame}
 use Rattle.frames.proofs.Frames.{said}
 use Rattle.writer.specs.Files.{from, edge?, edgeBytes, kindAt, founding?, fileOf, stretchOf, startOf}

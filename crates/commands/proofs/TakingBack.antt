@@ -12,12 +12,12 @@ use Rattle.sets.proofs.Bools.{or-cases, or-left, or-right, and-left, false-no}
 use Rattle.hierarchy.specs.Tables.{Tables, Live, row, kind, hasI, hasA}
 use Rattle.hierarchy.specs.Words.{Derives, Chain, Scope, Sound}
 use Rattle.hierarchy.specs.Words.{Chain.stop, Chain.step}
-use Rattle.hierarchy.specs.First.{First}
+use Rattle.hierarchy.specs.First.{First, Passed}
 use Rattle.hierarchy.proofs.Decide.{edge-lt}
 use Rattle.hierarchy.proofs.Derive.{derives↔descends, i-entry, a-entry}
 use Rattle.hierarchy.proofs.FirstLaws.{pass, none}
 use Rattle.board.specs.declared.Command.{Command}
-use Rattle.board.proofs.Rules.{Passed, first-done}
+use Rattle.board.proofs.Rules.{first-done}
 use Rattle.effects.specs.Effects.{pair, entry, tableAfter, after}
 use Rattle.effects.proofs.Edits.{table-entry, in-table, entry-3, live-stays}
 use Rattle.refusals.specs.Entitled.{Entitled}

@@ -7,7 +7,7 @@ use native.Mathlib.Omega.{arith}
 use Rattle.sets.proofs.Bools.{lt-or-ge}
 use Rattle.hierarchy.specs.Tables.{Tables}
 use Rattle.hierarchy.specs.Words.{Derives, Scope, Managed, Sound}
-use Rattle.hierarchy.specs.First.{First}
+use Rattle.hierarchy.specs.First.{First, Passed}
 use Rattle.hierarchy.specs.Views.{LiveLoops, ScopeBy, RightValues}
 use Rattle.hierarchy.proofs.FirstLaws.{pass}
 use Rattle.hierarchy.proofs.Order.{joined-inward, joined-loops}
@@ -17,7 +17,7 @@ use Rattle.board.specs.Rights.{RightsFit}
 use Rattle.board.specs.declared.Board.{Board}
 use Rattle.board.specs.declared.Command.{Command}
 use Rattle.board.specs.declared.answers.Answer.{Answer}
-use Rattle.board.proofs.Rules.{Passed, first-done, first-none, first-alike, first-without}
+use Rattle.board.proofs.Rules.{first-done, first-none, first-alike, first-without}
 use Rattle.board.proofs.Keeping.{derives-kept, scope-kept}
 use Rattle.effects.specs.Effects.{after}
 use Rattle.effects.proofs.Edits.{tables-stay}

@@ -13,3 +13,8 @@ First (rule ∷ rest) n = (rule .1 × (n ≡ rule .0)) ⊎ ((rule .1 → ⊥) ×
 abbrev pub Among : ℕ → List (ℕ × Type 0) → Type 0
 Among n [] = ⊥
 Among n (rule ∷ rest) = (n ≡ rule .0) ⊎ Among n rest
+
+-- no row of the table holds
+abbrev pub Passed : List (ℕ × Type 0) → Type 0
+Passed [] = Unit {0}
+Passed (rule ∷ rest) = (rule .1 → ⊥) × Passed rest

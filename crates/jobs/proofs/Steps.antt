@@ -16,7 +16,7 @@ use Rattle.board.proofs.Rules.{stable, first-done}
 use Rattle.board.specs.declared.Board.{Board}
 use Rattle.jobs.specs.Lists.{Jobs, jobsOf, roleOf, isListed, isHeld, Held, Open, HeldBy, taken, freed}
 use Rattle.jobs.specs.Answers.{claimRefusals, releaseRefusals, Settles}
-use Rattle.jobs.specs.Histories.{Event, Event.claim, Event.release, Entry, EventAnswer, claims, releases, claimOf, releaseOf, memberOf}
+use Rattle.jobs.specs.Histories.{Event, Event.claim, Event.release, Entry, entryOf, EventAnswer, claims, releases, claimOf, releaseOf, memberOf}
 use Rattle.jobs.proofs.Deciding.{placed}
 
 -- what no event changes: the roles, and that the other rows have 1,024 places
@@ -64,9 +64,6 @@ other jobs k u v j d =
     (ap (λ (x : ℕ). isListed jobs j && not (eqb x 0)) (getD-set-other (jobs .marks) k j u 0 d), getD-set-other (jobs .members) k j v 0 d)
 
 -- ---- one event
-
-abbrev pub entryOf : Event → ℕ → Entry
-entryOf v n = record { event = v; number = n }
 
 module _ {roles : List ℕ} {jobs : Jobs} (w : Whole roles jobs) (b : Board) (k m r : ℕ) (j : ℕ) where
   claim-done : Open jobs k → Did jobs (taken jobs k m) (entryOf (claim b k m r) 0) j

@@ -21,11 +21,11 @@ use Rattle.board.proofs.Rules.{first-done}
 use Rattle.board.proofs.Unique.{answered-unique}
 use Rattle.jobs.specs.Lists.{Jobs, roleAt, isListed, isHeld, isOpen, Held, Open, HeldBy}
 use Rattle.jobs.specs.Answers.{Fits, newList, startRefusals, StartAnswer, Settles, StateIs, LookAnswer}
-use Rattle.jobs.specs.Histories.{Event, Entry, EventAnswer, Went, History, claimOf, releaseOf, memberOf, claimsOf, releasesOf, unreleasedOf, LatestClaim, howMany}
+use Rattle.jobs.specs.Histories.{Event, Entry, entryOf, EventAnswer, Went, History, claimOf, releaseOf, memberOf, claimsOf, releasesOf, unreleasedOf, LatestClaim, howMany}
 use Rattle.jobs.specs.Histories.{Event.claim, Event.release, Went.over, Went.then}
 use Rattle.jobs.specs.declared.State.{State}
 use Rattle.jobs.specs.declared.State.the-variants.{IsOpen, HeldBy as IsHeldBy}
-use Rattle.jobs.proofs.Steps.{entryOf, Whole, Did, open-not-held, step, stays-whole}
+use Rattle.jobs.proofs.Steps.{Whole, Did, open-not-held, step, stays-whole}
 use Rattle.jobs.proofs.Steps.{Did.takes, Did.frees, Did.leaves}
 
 -- ---- the list at the start

@@ -19,6 +19,9 @@ pub record Entry : Type 0 where
   pub event : Event
   pub number : ℕ
 
+abbrev pub entryOf : Event → ℕ → Entry
+entryOf v n = record { event = v; number = n }
+
 abbrev pub EventAnswer : Event → Jobs → ℕ → Jobs → Type 0
 EventAnswer (claim b j m r) jobs = ClaimAnswer b jobs j m r
 EventAnswer (release b j m r) jobs = ReleaseAnswer b jobs j m r

@@ -13,7 +13,7 @@ use Rattle.sets.specs.Sets.{_isIn_}
 use Rattle.hierarchy.specs.Tables.{Tables, row, Live}
 use Rattle.hierarchy.specs.Words.{Derives, Scope, OutOfScope, LineManager, Sound, Climb, met, Distinct}
 use Rattle.hierarchy.specs.Views.{ScopeBy, OutOfScopeBy, ManagerIs, managerAt, stepsUp}
-use Rattle.hierarchy.specs.First.{First, Among}
+use Rattle.hierarchy.specs.First.{First, Among, Passed}
 use Rattle.hierarchy.proofs.Bars.{out-by, out-unique, out-not, out-some}
 use Rattle.hierarchy.proofs.FirstLaws.{first-unique, hit, pass}
 use Rattle.hierarchy.proofs.Theorems.{no-manager, one-manager, one-climb, one-way, climb-distinct, climb-short}
@@ -25,7 +25,7 @@ use Rattle.board.specs.declared.Command.{Command}
 use Rattle.board.specs.declared.answers.Answer.{Answer}
 use Rattle.board.specs.declared.kept.Manager.{Manager}
 use Rattle.board.proofs.Founding.{founding-sound}
-use Rattle.board.proofs.Rules.{stable, Passed, first-done, first-without, first-next}
+use Rattle.board.proofs.Rules.{stable, first-done, first-without, first-next}
 use Rattle.board.proofs.Unique.{board-stable, one-board}
 use Rattle.board.proofs.Keeping.{derives-kept, derivers-kept, manager-kept, scope-kept, steps-kept}
 use Rattle.questions.specs.Questions.{DerivesAnswer, ScopeAnswer, ManagerAnswer, StepsAnswer, refusals as questionRefusals}
