@@ -9,4 +9,5 @@ pub mod Fitting
 pub mod Asking
 pub mod Reading
 pub mod Fields
+pub mod Lending
 pub mod Values

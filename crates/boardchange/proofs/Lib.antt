@@ -1,3 +1,2 @@
 -- The laws that the proofs of `boardchange` cite.
 pub mod Giving
-pub mod Lending

@@ -26,8 +26,9 @@ fn bytes(part: &[u8]) {
 }
 
 // The edge records of a senior, as they stand in the file.
-pub(crate) fn records(file: &[u8], role: u32) {
-    text(b"the file: edge records of ");
+pub(crate) fn records(name: &[u8], file: &[u8], role: u32) {
+    text(name);
+    text(b": edge records of ");
     number(role);
     text(b":");
     let refusal = stretch_number(file, role);
@@ -41,8 +42,9 @@ pub(crate) fn records(file: &[u8], role: u32) {
 }
 
 // The board in the file, written into a buffer of sevens from a place on: the length, and the whole buffer.
-pub(crate) fn rewritten(file: &[u8], at: usize) {
-    text(b"the file, read and written at ");
+pub(crate) fn rewritten(name: &[u8], file: &[u8], at: usize) {
+    text(name);
+    text(b", read and written at ");
     io::print_decimal(1, at as u64);
     text(b": ");
     let r = read(file);

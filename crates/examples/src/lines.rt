@@ -2,8 +2,10 @@
 ghost use mathlib.Core.Path.{_≡_};
 ghost use mathlib.Core.Bool.{true};
 ghost use mathlib.Core.Logic.{_↔_};
+use crate::lending::applied;
 use board::Board;
 use board::Command;
+use board::answers::Answer;
 use board::checks;
 use board::kept::Manager;
 use commands::step;
@@ -180,10 +182,8 @@ pub(crate) fn steps(name: &[u8], b: Board, r: u32) {
 
 // ---- commands
 
-// Runs the command, writes its number, with 6 who offends and why, and gives back the board.
-fn run(b: Board, c: Command) -> Board {
-    let o = step(b, c);
-    let a = o.answer;
+// The number of an answer, with 6 who offends and why, at the end of a line.
+fn answered(a: Answer) {
     text(b": ");
     number(a.number as u32);
     if a.number == 6 {
@@ -192,6 +192,12 @@ fn run(b: Board, c: Command) -> Board {
         reason(a.cause, a.way);
     }
     text(b"\n");
+}
+
+// Runs the command, writes its answer, and gives back the board.
+fn run(b: Board, c: Command) -> Board {
+    let o = step(b, c);
+    answered(o.answer);
     o.board
 }
 
@@ -201,8 +207,8 @@ fn actor(name: &[u8], a: u32) {
     number(a);
 }
 
-// Adds an edge, removes one or changes its kind, as the command's code says.
-pub(crate) fn on_edge(name: &[u8], b: Board, c: Command) -> Board {
+// That an edge is added or removed or its kind changed, as the command's code says.
+fn changes(name: &[u8], c: Command) {
     actor(name, c.actor);
     if c.code == 3 {
         text(b" adds ");
@@ -216,7 +222,19 @@ pub(crate) fn on_edge(name: &[u8], b: Board, c: Command) -> Board {
     number(c.junior);
     text(b", kind ");
     number(c.kind);
+}
+
+pub(crate) fn on_edge(name: &[u8], b: Board, c: Command) -> Board {
+    changes(name, c);
     run(b, c)
+}
+
+// The same by the thin form, on a board that is lent.
+pub(crate) fn on_edge_lent(name: &[u8], b: Board, c: Command) -> Board {
+    changes(name, c);
+    let o = applied(b, c);
+    answered(o.answer);
+    o.board
 }
 
 // That a role is added, and its seniors.

@@ -17,6 +17,7 @@ use exampleboards::take_rights;
 use exampleboards::w;
 
 mod files;
+mod lending;
 mod lines;
 
 // P: who derives whom, scopes, line managers, steps.
@@ -248,16 +249,16 @@ fn an_evening() {
 // Document 01's file: the edge records of a senior with an edge, of one without, and of what is no live role or none at all; and the board in it.
 fn on_the_file() {
     let file = files::EXAMPLE;
-    files::records(&file, 0);
-    files::records(&file, 1);
-    files::records(&file, 2);
-    files::records(&file, 3);
-    files::records(&file, 64);
-    files::records(&file[1..], 0);
-    files::rewritten(&file, 5);
-    files::rewritten(&file, 9);
-    files::rewritten(&file, 10);
-    files::rewritten(&file[..14], 0);
+    files::records(b"the file", &file, 0);
+    files::records(b"the file", &file, 1);
+    files::records(b"the file", &file, 2);
+    files::records(b"the file", &file, 3);
+    files::records(b"the file", &file, 64);
+    files::records(b"the file without its first byte", &file[1..], 0);
+    files::rewritten(b"the file", &file, 5);
+    files::rewritten(b"the file", &file, 9);
+    files::rewritten(b"the file", &file, 10);
+    files::rewritten(b"the file without its last byte", &file[..14], 0);
 }
 
 // Kinds along a path: looking at neighbours alone would miss that I, IA, A joins to 0.
@@ -266,6 +267,15 @@ fn along_a_path() {
     files::path(&[2, 3, 1]);
     files::path(&[2, 1, 2]);
     files::path(&[3, 2, 3]);
+}
+
+// The thin form: role 1 makes the edge 1 to 3 an I edge, as above, on a board that is lent.
+fn by_the_thin_form() {
+    let b = p();
+    let lent = lines::on_edge_lent(b"P lent", b, change_edge(1, 1, 3, 1));
+    lines::derives(b"P lent, with 1 I 3", lent, 0, 3);
+    let opened = lines::on_edge(b"P", b, change_edge(1, 1, 3, 1));
+    lines::same(b"P lent, with 1 I 3, is P with 1 I 3", lent, opened);
 }
 
 fn main() {
@@ -286,4 +296,5 @@ fn main() {
     an_evening();
     on_the_file();
     along_a_path();
+    by_the_thin_form();
 }

@@ -47,7 +47,7 @@ use Rattle.libc.proofs.fstat.Met as fstat-thm
 use Rattle.boardchange.specs.declared.system.Looked.{Looked}
 use Rattle.boardchange.proofs.system.Looked as O
 use Rattle.boardchange.proofs.system.Looked.Laws as O′
-use Rattle.boardchange.proofs.Lending.{token, Related, refTo, lends, takes}
+use Rattle.board.proofs.Lending.{token, Related, refTo, lends, takes}
 use Rattle.boardchange.proofs.system.look.Key.{name as #look}
 use Rattle.boardchange.proofs.system.look as look′
 use Rattle.boardchange.proofs.system.look.Statement as stated

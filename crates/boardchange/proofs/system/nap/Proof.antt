@@ -42,7 +42,7 @@ use Rattle.libc.proofs.nanosleep as nanosleep
 use Rattle.libc.proofs.nanosleep.Symbol as nanosleep-def
 use Rattle.libc.proofs.nanosleep.Symbol.{name as #nanosleep}
 use Rattle.libc.proofs.nanosleep.Met as nanosleep-thm
-use Rattle.boardchange.proofs.Lending.{token, Related, refTo, lends, takes, shares, unshares}
+use Rattle.board.proofs.Lending.{token, Related, refTo, lends, takes, shares, unshares}
 use Rattle.boardchange.proofs.system.nap.Key.{name as #nap}
 use Rattle.boardchange.proofs.system.nap as nap
 use Rattle.boardchange.proofs.system.nap.Statement as stated
