@@ -5,7 +5,10 @@
  * is from here, there is one with that first. Of changes that were done, those come first that change nothing here (a right given
  * twice) and either show in no look to come or would be shut out; then those that lead towards what the reader sees next; then the
  * rest, those that ended first before others. A place met before, with the same changes taken and the same board, isn't gone into
- * again, and one that is past hope isn't either. */
+ * again, and one that is past hope isn't either.
+ *
+ * A change ends soon after it had the lock, however long it waited for that. So an order is looked for first in which each change lies
+ * in the last few milliseconds of its time, where few can come next; such an order is one for the whole times, too. */
 #include "race.h"
 #include <stdlib.h>
 #include <string.h>
@@ -37,6 +40,7 @@ static struct view views[2];
 static struct found_order result;
 static const struct look *goal; /* the look that was read last */
 static bool hasty;
+static long most; /* places that the search may come to */
 static int deepest;
 static struct node stuck; /* the deepest place where it didn't go on */
 
@@ -263,7 +267,7 @@ static bool search(int depth)
     take_idle(n);
     if (all_taken(n)) return true;
     if (hopeless(race, n->taken, n->killed, &n->view.board, goal_of(n)) || met(n)) return false;
-    if (++result.nodes > (hasty ? NODES / 10 : NODES)) {
+    if (++result.nodes > most) {
         result.too_long = true;
         return false;
     }
@@ -315,8 +319,21 @@ static void explain(FILE *out)
     }
 }
 
-static void search_all(void)
+/* So long before its end a change may lie at the earliest; 0: from its beginning on. Of one that was killed nobody knows when it ended. */
+static void narrow(struct race *r, int64_t span)
 {
+    for (int lane = 0; lane < LANES - 1; lane++)
+        for (int k = 0; k < r->lane[lane].count; k++) {
+            struct event *e = &r->lane[lane].event[k];
+            const struct answer *a = &e->asked->answer;
+            e->began = span > 0 && !a->killed && a->ended - span > a->began ? a->ended - span : a->began;
+        }
+}
+
+static void search_all(bool in_haste)
+{
+    hasty = in_haste;
+    most = result.nodes + (in_haste ? NODES / 10 : NODES);
     deepest = 0;
     memset(memo, 0, sizeof memo);
     memset(path[0], 0, sizeof *path[0]);
@@ -329,16 +346,18 @@ static void search_all(void)
 /* First without going back on what changes nothing and shows nowhere; where that leads to no order, with all choices. */
 struct found_order find_order(struct race *r, FILE *out)
 {
+    static const int64_t spans[] = {5000000, 20000000, 80000000, 0};
     race = r;
-    goal = NULL;
-    find_gaps(r);
     memset(fitting, 0, sizeof fitting);
     if (!path[0]) path[0] = malloc(sizeof *path[0]);
-    result.nodes = 0;
-    hasty = true;
-    search_all();
-    hasty = false;
-    if (!result.found) search_all();
+    result = (struct found_order){.nodes = 0};
+    for (size_t k = 0; k < sizeof spans / sizeof *spans && !result.found; k++) {
+        goal = NULL;
+        narrow(r, spans[k]);
+        find_gaps(r);
+        search_all(true);
+    }
+    if (!result.found) search_all(false);
     if (!result.found && out) explain(out);
     return result;
 }
