@@ -2,6 +2,7 @@
 # The tests from outside. See README.md.
 #
 #   tests/run.sh sample | full       the records' layout, then the model against the library
+#   tests/run.sh seeds [N]           the model against the library as in sample, for the seeds 1 to N (default 40)
 #   tests/run.sh layout              the records' layout alone
 #   tests/run.sh replay FILE         the case lines that a disagreement printed ("-": standard input)
 #   tests/run.sh history N           one of the job list's histories again, by its number
@@ -99,6 +100,22 @@ layout() {
     run "$build/layout"
 }
 
+# ---- the sample for many seeds: a drawing that fills every class for one may leave a class wanting for another
+
+seeds() { # N
+    tried=0 failed=0
+    while [ "$tried" -lt "$1" ]; do
+        tried=$((tried + 1)) status=0
+        run "$build/compare" --sample --no-examples --seed "$tried" >"$build/said" 2>&1 || status=$?
+        [ "$status" -ne 0 ] || continue
+        failed=$((failed + 1))
+        say "seed $tried: status $status"
+        grep -E "^(NOT FILLED|CAN'T BE|DISAGREEMENT)" "$build/said" || :
+    done
+    if [ "$failed" -gt 0 ]; then say "seeds 1 to $1: $failed fail"; else say "seeds 1 to $1: all pass"; fi
+    [ "$failed" -eq 0 ]
+}
+
 # ---- instructions: of some calls less those of fewer, so that starting the program doesn't count
 
 executed() { "$emulator" -one-insn-per-tb -d exec,nochain -D /dev/stdout "$build/once" "$@" 2>"$build/said" | grep -c '^Trace'; }
@@ -192,6 +209,12 @@ sample | full)
     layout
     build_compare "$build/compare"
     run "$build/compare" "--$1" --seed "$seed"
+    ;;
+seeds)
+    [ "${2:-40}" -gt 0 ] 2>/dev/null || die "usage: tests/run.sh seeds [N]"
+    tools
+    build_compare "$build/compare"
+    seeds "${2:-40}"
     ;;
 layout)
     tools

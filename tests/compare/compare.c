@@ -180,9 +180,9 @@ static uint32_t some_role(void)
 {
     int r = below(ROLES);
     if (chance(6)) return chance(50) ? ROLES : ROLES + below(256 - ROLES);
-    if (chance(8)) return r;
+    if (chance(10)) return r;
     for (int k = 0; k < ROLES && !opened.view.board.live[r]; k++) r = (r + 1) % ROLES;
-    return chance(12) ? wide(r) : (uint32_t)r;
+    return chance(20) ? wide(r) : (uint32_t)r;
 }
 
 /* Long enough, exactly so, one byte short, nothing, or any. */
@@ -229,6 +229,13 @@ static void ask_everything(void)
     }
 }
 
+/* Most that a command can meet it meets on a good file; but the model takes long on a large one. */
+static int commands_for(int damage, size_t len)
+{
+    if (damage == AS_WRITTEN) return len < 150 ? 6 : 4;
+    return opened.number == 7 || opened.number == 9 ? 2 : 1;
+}
+
 static bool try_file(int damage, struct view *v)
 {
     size_t len = make_file(damage, v, file);
@@ -240,7 +247,7 @@ static bool try_file(int damage, struct view *v)
     for (int k = 0; k < 4; k++)
         if (len == (size_t)(k < 2 ? HH_MOST : HR_MOST) + k % 2) tally.file_of[by_mark][k]++;
     if (len == HH_MOST && !by_mark && opened.number == 7) tally.many_edges++;
-    ask_some(damage == AS_WRITTEN ? 4 : opened.number == 7 || opened.number == 9 ? 2 : 1, 2);
+    ask_some(commands_for(damage, len), 2);
     if (damages[damage].number != ANY_NUMBER && opened.number != damages[damage].number) {
         try_question(&opened, CHECK, 0, 0);
         disagree("%s: made to give %u, and both give %u", damages[damage].name, damages[damage].number, opened.number);
@@ -248,11 +255,11 @@ static bool try_file(int damage, struct view *v)
     return true;
 }
 
-static void files_of_a_board(void)
+static void files_of_a_board(long round)
 {
     static struct view v;
     for (int damage = 0; damage < damage_count; damage++) {
-        if (damages[damage].long_file && !chance(50)) continue;
+        if (damages[damage].long_file && (round + damage) % 2 == 0) continue;
         for (int k = 0; k < 4; k++) { /* not every board can be damaged so */
             draw_sound(&v, chance(95) ? 10 : 40);
             if (try_file(damage, &v)) break;
@@ -274,6 +281,14 @@ static void try_both(const struct command *c)
 }
 
 static int some_lack(void) { return ONE_ABOVE + below(SOURCES - ONE_ABOVE); }
+
+/* Not every actor has a role that it only reaches, or one aside, so these come up more often. */
+static int some_source(void)
+{
+    static const uint8_t sources[] = {ITS_OWN,     OF_ONE_DERIVED, ONE_ABOVE, ONE_REACHED, ONE_REACHED,
+                                      ONE_REACHED, ONE_ASIDE,      ONE_ASIDE, NOBODY};
+    return sources[below(sizeof sources)];
+}
 
 /* The command, and again by an actor that may not give it. */
 static void try_both_ways(const struct command *c)
@@ -328,12 +343,13 @@ static void rare_refusals(void)
     start_with_rights();
     keep_board(&forked);
     draw_part_refused(&here, REMOVE_EDGE, 9, &c), try_both(&c), keep_command(&forked, &c);
+    draw_refused(&here, CHANGE_EDGE, 9, &c), try_both(&c), keep_command(&forked, &c);
 }
 
 /* A role that offends wherever a command can name one, by every cause, and more than one at once. */
 static void offending_roles(void)
 {
-    static const uint8_t codes[] = {1, 1, 1, 1, 2, 2, 3, 3, 4, 4, 5, 5, 6, 6, 7, 7};
+    static const uint8_t codes[] = {1, 1, 1, 1, 1, 1, 2, 2, 3, 3, 4, 4, 4, 5, 5, 5, 6, 6, 7, 7};
     struct command c;
     if (chance(80)) draw_crossed(&here);
     else draw_sound(&here, 12);
@@ -364,8 +380,8 @@ static void whose_rights(void)
             start();
             struct kept *kept = number == 9 ? &unmanaging[code] : &outside;
             if (number > 7) keep_board(kept);
-            int source = number == 9 ? some_lack() : chance(10) ? ONE_REACHED : below(SOURCES);
-            for (int tries = number == 9 ? 1 : 3; tries > 0; tries--) { /* not every actor has such a role */
+            int source = number == 9 ? some_lack() : some_source();
+            for (int tries = number == 9 ? 1 : 4; tries > 0; tries--) { /* not every actor has such a role */
                 if (number == 6) draw_offence(&here, code, &c);
                 else draw_refused(&here, code, number < 6 ? 0 : number, &c);
                 if (place_rights(&here, &c, source)) break;
@@ -529,6 +545,7 @@ static void runs(long round)
     run_on(&crossed, 6);
     run_on(&outside, 2);
     run_on(&unmanaging[ADD_ROLE], 2);
+    run_on(&unmanaging[REMOVE_ROLE], 2);
     run_on(&unmanaging[CHANGE_EDGE], 2);
     for (int k = 0; k < 2; k++) run_on_unsound();
     draw_sound(&here, 9);
@@ -597,7 +614,7 @@ static int run(const struct size *size, uint64_t seed)
         for (int k = 0; k < 5; k++) drawn_boards();
         unsound_boards();
         written_boards();
-        files_of_a_board();
+        files_of_a_board(round);
         rare_refusals();
         offending_roles();
         whose_rights();

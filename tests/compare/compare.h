@@ -16,7 +16,8 @@ uint32_t wide(uint32_t low); /* above 255, and mostly `low` where it is cut to 8
 void draw_sound(struct view *v, int most);  /* sound, at most so many roles, mixed kinds */
 void draw_tree(struct view *v, int roles);  /* every role but 0 has one senior: sound whatever the kinds */
 void draw_full(struct view *v, bool mixed); /* 64 roles, 2,016 edges: sound whatever the kinds */
-void draw_any(struct view *v, int most);    /* no loop, and mostly not sound */
+void draw_any(struct view *v, int most);    /* no loop, and as a rule sound */
+bool draw_unmanaged(struct view *v, int most); /* no loop, and a role without an administrator; or gives up */
 void draw_tied(struct view *v);             /* small, sound, and easily left with a role unmanaged */
 void draw_chained(struct view *v);          /* small, sound, with roles that reach what they don't derive */
 void draw_forked(struct view *v);           /* small, sound, with a role that one part of an edge keeps managed */
@@ -78,8 +79,9 @@ struct damage {
     enum mark mark;
     bool (*record)(struct made *, struct view *);
     size_t (*frame)(uint8_t *, size_t);
-    bool long_file; /* dear, so made less often */
+    bool long_file; /* dear, so made every other round */
 };
+enum { MOST_DAMAGES = 64 };
 extern const struct damage damages[];
 extern const int damage_count;
 enum { EMPTY, AS_WRITTEN }; /* the first two of the list; the first alone has no bytes */
@@ -179,7 +181,7 @@ struct tally {
     long wrong[WRONG_WAYS];
     long bad_rights[RIGHTS_WAYS];
     long place[PLACES][3]; /* of a board that isn't sound, and of one that is, as HH and as HR */
-    long damage[64][2][NUMBERS]; /* in HH and in HR */
+    long damage[MOST_DAMAGES][2][NUMBERS]; /* in HH and in HR */
     long parts[2][3][4][4]; /* of apply and command, by code of an edge: kind named, kind standing */
     long kind_range[3][3];  /* by code of an edge, 2 for the kind alone: 0, to 255, above */
     long cause[2][CODES][NAMED][4];   /* of a 6 from apply and command: code, where the offending role is named, cause */

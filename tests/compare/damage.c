@@ -225,15 +225,11 @@ static bool lone_role(struct made *p, struct view *v)
 
 static bool drawn_unmanaged(struct made *p, struct view *v)
 {
-    for (int k = 0; k < 30; k++) {
-        draw_any(v, 12);
-        if (!unmanaged(v)) continue;
-        if (p->hr) hr_rights(&v->board);
-        else hh_rights(&v->board);
-        take_apart(&v->board, p);
-        return true;
-    }
-    return false;
+    if (!draw_unmanaged(v, 12)) return false;
+    if (p->hr) hr_rights(&v->board);
+    else hh_rights(&v->board);
+    take_apart(&v->board, p);
+    return true;
 }
 
 static bool loop_and_unmanaged(struct made *p, struct view *v) { return drawn_unmanaged(p, v) && with_loop(p, v); }
@@ -332,9 +328,11 @@ static void fill(uint8_t *file, size_t roles, size_t edges, bool hr)
 
 static size_t too_long(uint8_t *file, size_t len)
 {
-    size_t more = chance(30) ? 1 : chance(80) ? HR_MOST - HH_MOST + below(2) : 1 + below(150), roles;
+    static const size_t lengths[] = {HH_MOST + 1, HR_MOST, HR_MOST + 1};
+    static unsigned turn; /* so that none of them is rare */
+    size_t roles;
     (void)len;
-    len = HH_MOST + more;
+    len = chance(90) ? lengths[turn++ % 3] : HH_MOST + (size_t)1 + below(150);
     for (roles = ROLES; (len - HH_TRAILER - roles) % 3 != 0; roles--) {}
     fill(file, roles, (len - HH_TRAILER - roles) / 3, false);
     return close_hh(file, roles, (len - HH_TRAILER - roles) / 3);
@@ -666,9 +664,11 @@ static bool two_faults(struct made *p, struct view *v)
 size_t make_file(int damage, struct view *v, uint8_t *file)
 {
     static struct made p;
+    static bool hr[MOST_DAMAGES]; /* HR and HH by turns, so that neither is rare where the damage is */
     enum mark mark = damages[damage].mark;
     if (damage == EMPTY) return 0;
-    if (mark == ONLY_HR || (damage != AS_WRITTEN && mark == EITHER && chance(50))) hr_rights(&v->board);
+    if (mark == EITHER) hr[damage] = !hr[damage];
+    if (mark == ONLY_HR || (damage != AS_WRITTEN && hr[damage])) hr_rights(&v->board);
     else if (damage != AS_WRITTEN) hh_rights(&v->board);
     take_apart(&v->board, &p);
     if (!damages[damage].record(&p, v)) return 0;

@@ -163,6 +163,15 @@ void draw_any(struct view *v, int most)
     look(v);
 }
 
+bool draw_unmanaged(struct view *v, int most)
+{
+    for (int k = 0; k < 30; k++) {
+        draw_any(v, most);
+        if (unmanaged(v)) return true;
+    }
+    return false;
+}
+
 static void drop_role(struct model *m, int r)
 {
     m->live[r] = false;
@@ -392,6 +401,16 @@ const char *const unsound_way[UNSOUND_WAYS] = {
     "entry from a role that isn't live", "entry to a role that isn't live", "a loop", "a role's edge to itself",
     "role 0 isn't live", "a role without an administrator", "an entry on an empty board", "noise"};
 
+/* A role and one that it reaches; small boards have few such pairs. */
+static bool pick_reached(const struct view *v, int *x, int *y)
+{
+    for (int k = 0; k < 30; k++) {
+        *x = pick_live(&v->board), *y = pick_live(&v->board);
+        if (v->reaches[*x][*y]) return true;
+    }
+    return false;
+}
+
 static void noisy_values(struct stored *s)
 {
     for (int x = 0; x < ROLES; x++) s->derives[x] = draw64(), s->derivers[x] = draw64(), s->manager[x] = below(256);
@@ -413,8 +432,7 @@ bool draw_unsound(int way, struct view *v, struct board *b)
         draw_edge(m, x, y);
         break;
     case 2:
-        x = pick_live(m), y = pick_live(m);
-        if (!v->reaches[x][y]) return false;
+        if (!pick_reached(v, &x, &y)) return false;
         draw_edge(m, y, x);
         break;
     case 3:
@@ -427,10 +445,7 @@ bool draw_unsound(int way, struct view *v, struct board *b)
         break;
     case 5:
         if (chance(50)) m->live[pick_dead(m)] = true;
-        else {
-            draw_any(v, 10);
-            if (!unmanaged(v)) return false;
-        }
+        else if (!draw_unmanaged(v, 10)) return false;
         break;
     case 6:
         memset(m, 0, sizeof *m);
@@ -611,6 +626,7 @@ static void fair_old_edge(const struct view *v, struct command *c)
         c->role = c->junior = 0;
         return;
     }
+    if (v->board.kind[c->role][c->junior] != 3 && chance(30)) pick_edge(&v->board, &c->role, &c->junior); /* IA is the rarest */
     for (int k = 0; k < 8; k++) {
         if (in_scope(v, c->actor, c->role) && in_scope(v, c->actor, c->junior) && !lacks_right(v, c)) break;
         c->actor = k == 0 ? c->role : (uint32_t)pick_live(&v->board);
@@ -619,7 +635,7 @@ static void fair_old_edge(const struct view *v, struct command *c)
 
 static void fair_edge(const struct view *v, struct command *c)
 {
-    if (chance(c->code == ADD_EDGE ? 65 : 10)) fair_new_edge(v, c);
+    if (chance(c->code == ADD_EDGE ? 50 : 10)) fair_new_edge(v, c);
     else fair_old_edge(v, c);
     c->kind = 1 + below(3);
     uint32_t standing = c->kind & v->board.kind[c->role][c->junior];
@@ -647,23 +663,13 @@ static uint32_t bad_rights(void)
     return chance(40) ? least : chance(50) ? least << below(3) | any_rights() : chance(50) ? 255 : least + below(224);
 }
 
+static uint32_t bad_kind(void) { return chance(50) ? 0 : 4 + below(chance(50) ? 1 : 252); }
+
 static void spoil_range(struct command *c)
 {
-    if (on_rights(c) && chance(40)) {
-        c->rights = bad_rights();
-        return;
-    }
-    switch (below(4)) {
-    case 0: c->actor = out_of_range(); break;
-    case 1: c->role = out_of_range(); break;
-    case 2:
-        if (on_edge(c)) c->junior = out_of_range();
-        else c->role = out_of_range();
-        break;
-    default:
-        if (on_edge(c)) c->kind = chance(50) ? 0 : 4 + below(chance(50) ? 1 : 252);
-        else c->actor = out_of_range();
-    }
+    if (on_rights(c) && chance(40)) c->rights = bad_rights();
+    else if (on_edge(c) && chance(40)) c->kind = bad_kind();
+    else *field_of(c, ACTOR + below(on_edge(c) ? 3 : 2)) = out_of_range();
 }
 
 uint32_t *field_of(struct command *c, int field)
@@ -682,7 +688,7 @@ bool uses_field(const struct command *c, int field)
 static void spoil_width(struct command *c)
 {
     int field = below(FIELDS);
-    if (!uses_field(c, field)) field = on_rights(c) ? THE_RIGHTS : ROLE;
+    if (!uses_field(c, field)) field = on_rights(c) ? THE_RIGHTS : !on_edge(c) ? ROLE : chance(50) ? JUNIOR : KIND;
     *field_of(c, field) = wide(*field_of(c, field));
 }
 
@@ -749,7 +755,7 @@ static void spoil_right(const struct view *v, struct command *c)
     }
 }
 
-static uint32_t any_number(void) { return chance(30) ? wide(below(256)) : (uint32_t)below(256); }
+static uint32_t any_number(void) { return chance(50) ? wide(below(256)) : (uint32_t)below(256); }
 
 /* What a command doesn't use may hold anything, so every field starts as noise. */
 static void noise(struct command *c)
@@ -780,7 +786,7 @@ static void draw_of_code(const struct view *v, int code, struct command *c)
 
 void draw_command(const struct view *v, struct command *c)
 {
-    static const uint8_t codes[] = {1, 1, 1, 2, 2, 3, 3, 3, 4, 4, 5, 5, 6, 6, 7};
+    static const uint8_t codes[] = {1, 1, 1, 2, 2, 3, 3, 3, 4, 4, 4, 5, 5, 6, 6, 7, 7};
     if (chance(3)) { /* a code outside 1 to 7: all else is right for some code, or is not */
         uint32_t code = chance(40) ? 0 : chance(60) ? 8 : any_number();
         if (chance(50)) noise(c);
@@ -816,11 +822,13 @@ void draw_spoilt(const struct view *v, int number, struct command *c)
 static void draw_until(const struct view *v, int code, int number, bool part, struct command *c)
 {
     struct command done;
+    int draws = part || code == ADD_ROLE ? 60 : 30; /* many of these are passed over */
     draw_of_code(v, code, &done);
-    for (int k = 0; k < 30; k++) {
+    for (int k = 0; k < draws; k++) {
         draw_of_code(v, code, c);
         uint32_t standing = part ? v->board.kind[c->role][c->junior] : 0;
         if (part && (standing == 0 || standing == c->kind)) continue;
+        if (code == ADD_ROLE && number == 9 && (c->a_juniors | c->i_juniors) == 0) continue; /* never a 9 */
         uint8_t given = decide_on_sound(v, c);
         if (given == number) return;
         if (given == 0) done = *c;
@@ -892,7 +900,7 @@ static bool edge_to_offend(const struct view *v, enum named named, struct comman
 
 static enum named some_field(int code)
 {
-    if (code == ADD_ROLE) return A_SENIORS + below(4);
+    if (code == ADD_ROLE) return (chance(60) ? A_JUNIORS : A_SENIORS) + below(2); /* juniors offend by one cause more */
     if (code == GIVE_RIGHTS || code == TAKE_RIGHTS) return THE_TARGET;
     return code == REMOVE_ROLE ? THE_REMOVED : chance(50) ? THE_SENIOR : THE_JUNIOR;
 }
