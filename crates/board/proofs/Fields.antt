@@ -1,5 +1,5 @@
 -- A board in memory is its seven fields in memory, side by side (`fields_out`, `fields_in`). They are lent where they lie, to be changed
--- (`lends-fields`, `takes-fields`) or to be read (`views-fields`, `hides-fields`), and come back. For the proofs by hand of functions that
+-- (`lends_fields`, `takes_fields`) or to be read (`views_fields`, `hides_fields`), and come back. For the proofs by hand of functions that
 -- take a board by reference. Assumes `Logic`.
 use mathlib.Core.Path.{◌≡◌, refl, ap, subst}
 use Prim.Native.Nat.{ℕ, ◌+◌, ◌<◌, ◌^◌}
@@ -29,7 +29,7 @@ use denote.Struct.Laws as LL
 use denote.Struct.Members.{Member, rows_of, parts_at}
 use denote.Struct.Parts.{shape_of, PartsBack, Struct-parts}
 use denote.Struct.Struct.{Struct}
-use Rattle.board.specs.Boards.{boardOf}
+use Rattle.board.specs.Boards.{board_of}
 use Rattle.board.specs.declared.Board.{Board}
 use Rattle.board.specs.contracts.Board as B
 use Rattle.board.proofs.Board.TheLaws as B'
@@ -57,13 +57,13 @@ abbrev pub fields_at : Share → Board → ℕ → ℕ → Fml
 fields_at q d b o = parts_at q members 0 (d.live, (d.i, (d.a, (d.derives, (d.derivers, (d.manager, (d.rights, tt))))))) b o
 
 -- a struct's row has an array field's elements one by one
-each-is : (xs : List ℕ) → map (λ (x : ℕ). x) xs ≡ xs
-each-is [] = refl
-each-is (x ∷ xs) = ap (λ (ys : List ℕ). x ∷ ys) (each-is xs)
+each_is : (xs : List ℕ) → map (λ (x : ℕ). x) xs ≡ xs
+each_is [] = refl
+each_is (x ∷ xs) = ap (λ (ys : List ℕ). x ∷ ys) (each_is xs)
 
-fields-are : (q : Share) (d : Board) (b o : ℕ) → parts_at q members 0 ((B.the_type).to d) b o ≡ fields_at q d b o
-fields-are q d b o =
-    λ j. parts_at q members 0 (d.live, (each-is d.i j, (each-is d.a j, (each-is d.derives j, (each-is d.derivers j, (each-is d.manager j, (each-is d.rights j, tt))))))) b o
+fields_are : (q : Share) (d : Board) (b o : ℕ) → parts_at q members 0 ((B.the_type).to d) b o ≡ fields_at q d b o
+fields_are q d b o =
+    λ j. parts_at q members 0 (d.live, (each_is d.i j, (each_is d.a j, (each_is d.derives j, (each_is d.derivers j, (each_is d.manager j, (each_is d.rights j, tt))))))) b o
 
 module _ {M : Type 1} {𝓤 : Ura M} (𝓛 : Logic 𝓤) where
   -- the way back: the fields of any board are that board
@@ -77,13 +77,13 @@ module _ {M : Type 1} {𝓤 : Ura M} (𝓛 : Logic 𝓤) where
     fields_back : ent 𝓤 (PartsBack 𝓛 q (B.struct).name members b o) (FieldsBack q b o)
     unfolding part_of
     fields_back = all_i 𝓤 (λ (d : Board). wand 𝓤 (sem 𝓛 (fields_at q d b o)) (sem 𝓛 (part_at B.the_row q d b o))) (λ d.
-        subst (λ (F : Fml). ent 𝓤 (PartsBack 𝓛 q (B.struct).name members b o) (wand 𝓤 (sem 𝓛 F) (sem 𝓛 (part_at B.the_row q d b o)))) (fields-are q d b o)
+        subst (λ (F : Fml). ent 𝓤 (PartsBack 𝓛 q (B.struct).name members b o) (wand 𝓤 (sem 𝓛 F) (sem 𝓛 (part_at B.the_row q d b o)))) (fields_are q d b o)
         (all_e 𝓤 (λ (a : Denots (rows_of members)). wand 𝓤 (sem 𝓛 (parts_at q members 0 a b o)) (sem 𝓛 (part_at (Struct (shape_of (B.struct).name members)) q a b o))) ((B.the_type).to d)))
 
     pub fields_out : (d : Board) → ent 𝓤 (sem 𝓛 (part_at B.the_row q d b o)) (sep 𝓤 (sem 𝓛 (fields_at q d b o)) (FieldsBack q b o))
     unfolding part_of
     fields_out d =
-        subst (λ (F : Fml). ent 𝓤 (sem 𝓛 (part_at B.the_row q d b o)) (sep 𝓤 (sem 𝓛 F) (FieldsBack q b o))) (fields-are q d b o)
+        subst (λ (F : Fml). ent 𝓤 (sem 𝓛 (part_at B.the_row q d b o)) (sep 𝓤 (sem 𝓛 F) (FieldsBack q b o))) (fields_are q d b o)
         (via 𝓤 (sep 𝓤 (sem 𝓛 (parts_at q members 0 ((B.the_type).to d) b o)) (PartsBack 𝓛 q (B.struct).name members b o)) (Struct-parts 𝓛 q (B.struct).name members lawful ((B.the_type).to d) b o) (mono_r 𝓤 (sem 𝓛 (parts_at q members 0 ((B.the_type).to d) b o)) fields_back))
 
     pub fields_in : (d : Board) → ent 𝓤 (sep 𝓤 (sem 𝓛 (fields_at q d b o)) (FieldsBack q b o)) (sem 𝓛 (part_at B.the_row q d b o))
@@ -96,8 +96,8 @@ module _ {M : Type 1} {𝓤 : Ura M} (𝓛 : Logic 𝓤) where
 abbrev pub Loan : Type 0
 Loan = ℕ × GName
 
-abbrev tokenOf : Loan → Fml
-tokenOf k = flft (k.0 ∷ []) full_share
+abbrev token_of : Loan → Fml
+token_of k = flft (k.0 ∷ []) full_share
 
 module _ (R : RattleType) (k : Loan) where
   abbrev ref_at : R.Denot → ℕ → ℕ → Fml
@@ -120,13 +120,13 @@ pub record Loans : Type 0 where
   pub rights : Loan
 
 module _ (k : Loans) where
-  abbrev pub tokensOf : Fml
-  tokensOf =
-      fsep (tokenOf k.live) (fsep (tokenOf k.i) (fsep (tokenOf k.a) (fsep (tokenOf k.derives) (fsep (tokenOf k.derivers) (fsep (tokenOf k.manager)
-      (fsep (tokenOf k.rights) ftrue))))))
+  abbrev pub tokens_of : Fml
+  tokens_of =
+      fsep (token_of k.live) (fsep (token_of k.i) (fsep (token_of k.a) (fsep (token_of k.derives) (fsep (token_of k.derivers) (fsep (token_of k.manager)
+      (fsep (token_of k.rights) ftrue))))))
 
-  abbrev pub refsAt : Board → ℕ → ℕ → Fml → Fml
-  refsAt d b o T =
+  abbrev pub refs_at : Board → ℕ → ℕ → Fml → Fml
+  refs_at d b o T =
       fsep (ref_at u64 k.live d.live b (o + 0)) (fsep (ref_at Words k.i d.i b (o + 8)) (fsep (ref_at Words k.a d.a b (o + 520))
       (fsep (ref_at Words k.derives d.derives b (o + 1032)) (fsep (ref_at Words k.derivers d.derivers b (o + 1544))
       (fsep (ref_at Bytes k.manager d.manager b (o + 2056)) (fsep (ref_at Bytes k.rights d.rights b (o + 2120)) T))))))
@@ -136,30 +136,30 @@ module _ (k : Loans) where
       fsep (last_of u64 k.live d.live) (fsep (last_of Words k.i d.i) (fsep (last_of Words k.a d.a) (fsep (last_of Words k.derives d.derives)
       (fsep (last_of Words k.derivers d.derivers) (fsep (last_of Bytes k.manager d.manager) (fsep (last_of Bytes k.rights d.rights) T))))))
 
-  abbrev pub lentsAt : ℕ → ℕ → Fml
-  lentsAt b o =
+  abbrev pub lents_at : ℕ → ℕ → Fml
+  lents_at b o =
       fsep (lent_at u64 k.live b (o + 0)) (fsep (lent_at Words k.i b (o + 8)) (fsep (lent_at Words k.a b (o + 520)) (fsep (lent_at Words k.derives b (o + 1032))
       (fsep (lent_at Words k.derivers b (o + 1544)) (fsep (lent_at Bytes k.manager b (o + 2056)) (fsep (lent_at Bytes k.rights b (o + 2120)) ftrue))))))
 
   -- the same as the arguments of a callee's triple, before its other arguments
-  abbrev pub lifetimesOf : {X : Type 0} → X → Lft × (Lft × (Lft × (Lft × (Lft × (Lft × (Lft × X))))))
-  lifetimesOf t = (k.live.0 ∷ [], (k.i.0 ∷ [], (k.a.0 ∷ [], (k.derives.0 ∷ [], (k.derivers.0 ∷ [], (k.manager.0 ∷ [], (k.rights.0 ∷ [], t)))))))
+  abbrev pub lifetimes_of : {X : Type 0} → X → Lft × (Lft × (Lft × (Lft × (Lft × (Lft × (Lft × X))))))
+  lifetimes_of t = (k.live.0 ∷ [], (k.i.0 ∷ [], (k.a.0 ∷ [], (k.derives.0 ∷ [], (k.derivers.0 ∷ [], (k.manager.0 ∷ [], (k.rights.0 ∷ [], t)))))))
 
-  abbrev pub refsOf : {X : Type 0} → Board → ℕ → ℕ → X → Bor ℕ × (Bor (List ℕ) × (Bor (List ℕ) × (Bor (List ℕ) × (Bor (List ℕ) × (Bor (List ℕ) × (Bor (List ℕ) × X))))))
-  refsOf d b o t = (record { ref_ptr = (b, o + 0); ghost_name = k.live.1; now = d.live }, (record { ref_ptr = (b, o + 8); ghost_name = k.i.1; now = d.i }, (record { ref_ptr = (b, o + 520); ghost_name = k.a.1; now = d.a }, (record { ref_ptr = (b, o + 1032); ghost_name = k.derives.1; now = d.derives }, (record { ref_ptr = (b, o + 1544); ghost_name = k.derivers.1; now = d.derivers }, (record { ref_ptr = (b, o + 2056); ghost_name = k.manager.1; now = d.manager }, (record { ref_ptr = (b, o + 2120); ghost_name = k.rights.1; now = d.rights }, t)))))))
+  abbrev pub refs_of : {X : Type 0} → Board → ℕ → ℕ → X → Bor ℕ × (Bor (List ℕ) × (Bor (List ℕ) × (Bor (List ℕ) × (Bor (List ℕ) × (Bor (List ℕ) × (Bor (List ℕ) × X))))))
+  refs_of d b o t = (record { ref_ptr = (b, o + 0); ghost_name = k.live.1; now = d.live }, (record { ref_ptr = (b, o + 8); ghost_name = k.i.1; now = d.i }, (record { ref_ptr = (b, o + 520); ghost_name = k.a.1; now = d.a }, (record { ref_ptr = (b, o + 1032); ghost_name = k.derives.1; now = d.derives }, (record { ref_ptr = (b, o + 1544); ghost_name = k.derivers.1; now = d.derivers }, (record { ref_ptr = (b, o + 2056); ghost_name = k.manager.1; now = d.manager }, (record { ref_ptr = (b, o + 2120); ghost_name = k.rights.1; now = d.rights }, t)))))))
 
 abbrev pub shares_of : {X : Type 0} → X → Share × (Share × (Share × (Share × (Share × (Share × (Share × X))))))
 shares_of t = (full_share, (full_share, (full_share, (full_share, (full_share, (full_share, (full_share, t)))))))
 
-abbrev pub pointersOf : {X : Type 0} → ℕ → ℕ → X → List Val × (List Val × (List Val × (List Val × (List Val × (List Val × (List Val × X))))))
-pointersOf b o t = (vptr b (o + 0) ∷ [], (vptr b (o + 8) ∷ [], (vptr b (o + 520) ∷ [], (vptr b (o + 1032) ∷ [], (vptr b (o + 1544) ∷ [], (vptr b (o + 2056) ∷ [], (vptr b (o + 2120) ∷ [], t)))))))
+abbrev pub pointers_of : {X : Type 0} → ℕ → ℕ → X → List Val × (List Val × (List Val × (List Val × (List Val × (List Val × (List Val × X))))))
+pointers_of b o t = (vptr b (o + 0) ∷ [], (vptr b (o + 8) ∷ [], (vptr b (o + 520) ∷ [], (vptr b (o + 1032) ∷ [], (vptr b (o + 1544) ∷ [], (vptr b (o + 2056) ∷ [], (vptr b (o + 2120) ∷ [], t)))))))
 
 -- the last values that a callee leaves, and the board that they are
 abbrev pub Lasts : Type 0 → Type 0
 Lasts X = ℕ × (List ℕ × (List ℕ × (List ℕ × (List ℕ × (List ℕ × (List ℕ × X))))))
 
-abbrev pub boardOfLasts : {X : Type 0} → Lasts X → Board
-boardOfLasts z = boardOf z.0 z.1.0 z.1.1.0 z.1.1.1.0 z.1.1.1.1.0 z.1.1.1.1.1.0 z.1.1.1.1.1.1.0
+abbrev pub board_of_lasts : {X : Type 0} → Lasts X → Board
+board_of_lasts z = board_of z.0 z.1.0 z.1.1.0 z.1.1.1.0 z.1.1.1.1.0 z.1.1.1.1.1.0 z.1.1.1.1.1.1.0
 
 module _ {M : Type 1} {𝓤 : Ura M} {𝓛 : Logic 𝓤} {K : Type 0} {Γ : List (Item 𝓤)} {G : Goal 𝓤 𝓛.H} where
   fsplit8 : K → {P Q R S T U X Y : Fml}
@@ -175,22 +175,22 @@ module _ {M : Type 1} {𝓤 : Ura M} {𝓛 : Logic 𝓤} {K : Type 0} {Γ : List
       (id⊢ 𝓤 (sem 𝓛 (fsep P (fsep Q (fsep R (fsep S (fsep T (fsep U (fsep X Y)))))))))
 
   -- one value is lent for a lifetime made for the loan, and comes back once that is ended
-  lends : K → Soaks G → (R : RattleType) (h : R.Denot) (b o : ℕ) → ((k : Loan) → Seq K 𝓛 (‵ (tokenOf k) ∷ ‵ (ref_at R k h b o) ∷ ‵ (lent_at R k b o) ∷ Γ) G)
+  lends : K → Soaks G → (R : RattleType) (h : R.Denot) (b o : ℕ) → ((k : Loan) → Seq K 𝓛 (‵ (token_of k) ∷ ‵ (ref_at R k h b o) ∷ ‵ (lent_at R k b o) ∷ Γ) G)
       → Seq K 𝓛 (‵ ((mem R).own_at h b o) ∷ Γ) G
   lends t z R h b o c = lft_new t z (λ ν. move t (1 ∷ []) $
       use1 𝓛 (later (some (λ (γ : GName). ‵ (ref_at R (ν, γ) h b o) ⊛ ‵ (lent_at R (ν, γ) b o)))) (lends_ref 𝓛 R (named 0) (ν ∷ []) h b o) $
       await t z $ pick t (λ γ. split t $ move t (2 ∷ 0 ∷ []) $ c (ν, γ)))
 
   takes : K → Soaks G → (R : RattleType) (k : Loan) (h : R.Denot) (b o : ℕ)
-      → Step K 𝓛 (‵ ((mem R).own_at h b o) ∷ Γ) G (‵ (tokenOf k) ∷ ‵ (last_of R k h) ∷ ‵ (lent_at R k b o) ∷ Γ) G
+      → Step K 𝓛 (‵ ((mem R).own_at h b o) ∷ Γ) G (‵ (token_of k) ∷ ‵ (last_of R k h) ∷ ‵ (lent_at R k b o) ∷ Γ) G
   takes t z R k h b o = step (λ s. lft_end t z $ move t (0 ∷ 2 ∷ []) $ use3 𝓛 (later (‵ ((mem R).own_at h b o))) (ref_back 𝓛 R (k.0 ∷ []) k.1 h b o) $ await t z $ s)
 
 module _ {M : Type 1} {𝓤 : Ura M} {𝓛 : Logic 𝓤} {K : Type 0} {Γ : List (Item 𝓤)} {G : Goal 𝓤 𝓛.H} where
   -- the fields of the board d at (b, o) are lent
-  pub lends-fields : K → Soaks G → (d : Board) (b o : ℕ) (T : Fml)
-      → ((k : Loans) → Seq K 𝓛 (‵ (tokensOf k) ∷ ‵ (refsAt k d b o T) ∷ ‵ (lentsAt k b o) ∷ raw (FieldsBack 𝓛 full_share b o) ∷ Γ) G)
+  pub lends_fields : K → Soaks G → (d : Board) (b o : ℕ) (T : Fml)
+      → ((k : Loans) → Seq K 𝓛 (‵ (tokens_of k) ∷ ‵ (refs_at k d b o T) ∷ ‵ (lents_at k b o) ∷ raw (FieldsBack 𝓛 full_share b o) ∷ Γ) G)
       → Seq K 𝓛 (‵ ((mem B.the_row).own_at d b o) ∷ ‵ T ∷ Γ) G
-  lends-fields t z d b o T c =
+  lends_fields t z d b o T c =
       use1 𝓛 (‵ (fields_at full_share d b o) ⊛ raw (FieldsBack 𝓛 full_share b o)) (fields_out 𝓛 full_share b o d) $ split t $ fsplit8 t $
       -- [the seven; true; the way back; T]
       move t (6 ∷ []) $ lends t z Bytes d.rights b (o + 2120) (λ k₆. move t (8 ∷ []) $ lends t z Bytes d.manager b (o + 2056) (λ k₅.
@@ -201,9 +201,9 @@ module _ {M : Type 1} {𝓤 : Ura M} {𝓛 : Logic 𝓤} {K : Type 0} {Γ : List
       c (record { live = k₀; i = k₁; a = k₂; derives = k₃; derivers = k₄; manager = k₅; rights = k₆ }))))))))
 
   -- and the board comes back, with the fields as they were left
-  pub takes-fields : K → Soaks G → (k : Loans) (d : Board) (b o : ℕ) (T : Fml)
-      → Step K 𝓛 (‵ ((mem B.the_row).own_at d b o) ∷ Γ) G (‵ (tokensOf k) ∷ ‵ (lasts_of k d T) ∷ ‵ (lentsAt k b o) ∷ raw (FieldsBack 𝓛 full_share b o) ∷ Γ) G
-  takes-fields t z k d b o T = step (λ s.
+  pub takes_fields : K → Soaks G → (k : Loans) (d : Board) (b o : ℕ) (T : Fml)
+      → Step K 𝓛 (‵ ((mem B.the_row).own_at d b o) ∷ Γ) G (‵ (tokens_of k) ∷ ‵ (lasts_of k d T) ∷ ‵ (lents_at k b o) ∷ raw (FieldsBack 𝓛 full_share b o) ∷ Γ) G
+  takes_fields t z k d b o T = step (λ s.
       fsplit8 t $ move t (8 ∷ []) $ fsplit8 t $ move t (16 ∷ []) $ fsplit8 t $
       -- [the lender's seven parts; true; the seven last values; T; the seven tokens; true; the way back]
       move t (22 ∷ 14 ∷ 6 ∷ []) $ takes t z Bytes k.rights d.rights b (o + 2120) $
@@ -228,28 +228,28 @@ pub record Views : Type 0 where
 abbrev pub view_of : (R : RattleType) → ℕ → GName → R.Denot → ℕ → ℕ → Fml
 view_of R ν γ h b o = (ShrRef (named 0) (ν ∷ []) R).own_val (record { ref_ptr = (b, o); now = h }) (vptr b o ∷ [])
 
-abbrev pub liveAt : Share → Board → ℕ → ℕ → Fml
-liveAt q d b o = fat q (ty_int w64) b (o + 0) (vint w64 d.live)
+abbrev pub live_at : Share → Board → ℕ → ℕ → Fml
+live_at q d b o = fat q (ty_int w64) b (o + 0) (vint w64 d.live)
 
 module _ (k : Views) (d : Board) (b o : ℕ) where
-  abbrev pub viewsAt : Fml → Fml
-  viewsAt T =
+  abbrev pub views_at : Fml → Fml
+  views_at T =
       fsep (u64.own_val d.live (vint w64 d.live ∷ [])) (fsep (view_of Words k.lifetime k.i d.i b (o + 8)) (fsep (view_of Words k.lifetime k.a d.a b (o + 520))
       (fsep (view_of Words k.lifetime k.derives d.derives b (o + 1032)) (fsep (view_of Words k.lifetime k.derivers d.derivers b (o + 1544))
       (fsep (view_of Bytes k.lifetime k.manager d.manager b (o + 2056)) (fsep (view_of Bytes k.lifetime k.rights d.rights b (o + 2120)) T))))))
 
-  abbrev pub hiddenAt : Share → Fml
-  hiddenAt q =
+  abbrev pub hidden_at : Share → Fml
+  hidden_at q =
       fsep (u64.own_val d.live (vint w64 d.live ∷ [])) (fsep (flent (k.lifetime ∷ []) (part_at Words q d.i b (o + 8))) (fsep (flent (k.lifetime ∷ []) (part_at Words q d.a b (o + 520)))
       (fsep (flent (k.lifetime ∷ []) (part_at Words q d.derives b (o + 1032))) (fsep (flent (k.lifetime ∷ []) (part_at Words q d.derivers b (o + 1544)))
       (fsep (flent (k.lifetime ∷ []) (part_at Bytes q d.manager b (o + 2056))) (fsep (flent (k.lifetime ∷ []) (part_at Bytes q d.rights b (o + 2120))) ftrue))))))
 
   -- as the arguments of a callee's triple, before its other arguments
-  abbrev pub viewsOf : {X : Type 0} → X → ℕ × (Bor (List ℕ) × (Bor (List ℕ) × (Bor (List ℕ) × (Bor (List ℕ) × (Bor (List ℕ) × (Bor (List ℕ) × X))))))
-  viewsOf t = (d.live, (record { ref_ptr = (b, o + 8); ghost_name = k.i; now = d.i }, (record { ref_ptr = (b, o + 520); ghost_name = k.a; now = d.a }, (record { ref_ptr = (b, o + 1032); ghost_name = k.derives; now = d.derives }, (record { ref_ptr = (b, o + 1544); ghost_name = k.derivers; now = d.derivers }, (record { ref_ptr = (b, o + 2056); ghost_name = k.manager; now = d.manager }, (record { ref_ptr = (b, o + 2120); ghost_name = k.rights; now = d.rights }, t)))))))
+  abbrev pub views_of : {X : Type 0} → X → ℕ × (Bor (List ℕ) × (Bor (List ℕ) × (Bor (List ℕ) × (Bor (List ℕ) × (Bor (List ℕ) × (Bor (List ℕ) × X))))))
+  views_of t = (d.live, (record { ref_ptr = (b, o + 8); ghost_name = k.i; now = d.i }, (record { ref_ptr = (b, o + 520); ghost_name = k.a; now = d.a }, (record { ref_ptr = (b, o + 1032); ghost_name = k.derives; now = d.derives }, (record { ref_ptr = (b, o + 1544); ghost_name = k.derivers; now = d.derivers }, (record { ref_ptr = (b, o + 2056); ghost_name = k.manager; now = d.manager }, (record { ref_ptr = (b, o + 2120); ghost_name = k.rights; now = d.rights }, t)))))))
 
-abbrev pub viewPointersOf : {X : Type 0} → Board → ℕ → ℕ → X → List Val × (List Val × (List Val × (List Val × (List Val × (List Val × (List Val × X))))))
-viewPointersOf d b o t = (vint w64 d.live ∷ [], (vptr b (o + 8) ∷ [], (vptr b (o + 520) ∷ [], (vptr b (o + 1032) ∷ [], (vptr b (o + 1544) ∷ [], (vptr b (o + 2056) ∷ [], (vptr b (o + 2120) ∷ [], t)))))))
+abbrev pub view_pointers_of : {X : Type 0} → Board → ℕ → ℕ → X → List Val × (List Val × (List Val × (List Val × (List Val × (List Val × (List Val × X))))))
+view_pointers_of d b o t = (vint w64 d.live ∷ [], (vptr b (o + 8) ∷ [], (vptr b (o + 520) ∷ [], (vptr b (o + 1032) ∷ [], (vptr b (o + 1544) ∷ [], (vptr b (o + 2056) ∷ [], (vptr b (o + 2120) ∷ [], t)))))))
 
 -- what a callee leaves of these seven is nothing; what it leaves of its other arguments follows
 abbrev pub Unchanged : Type 0 → Type 0
@@ -279,10 +279,10 @@ module _ {M : Type 1} {𝓤 : Ura M} {𝓛 : Logic 𝓤} {K : Type 0} {Γ : List
   hides t z κ P = step (λ s. use1 𝓛 (‵ (fdead κ) ⊛ ‵ (fdead κ)) (𝓛.lfts.dead_dup κ) $ split t $ move t (0 ∷ 2 ∷ []) $ lent_back t z $ s)
 
 module _ {M : Type 1} {𝓤 : Ura M} {𝓛 : Logic 𝓤} {K : Type 0} {Γ : List (Item 𝓤)} {G : Goal 𝓤 𝓛.H} where
-  pub views-fields : K → Soaks G → (q : Share) (d : Board) (b o : ℕ) (T : Fml)
-      → ((k : Views) → d.live < 2 ^ 64 → Seq K 𝓛 (‵ (flft (k.lifetime ∷ []) full_share) ∷ ‵ (viewsAt k d b o T) ∷ ‵ (hiddenAt k d b o q) ∷ raw (FieldsBack 𝓛 q b o) ∷ ‵ (liveAt q d b o) ∷ Γ) G)
+  pub views_fields : K → Soaks G → (q : Share) (d : Board) (b o : ℕ) (T : Fml)
+      → ((k : Views) → d.live < 2 ^ 64 → Seq K 𝓛 (‵ (flft (k.lifetime ∷ []) full_share) ∷ ‵ (views_at k d b o T) ∷ ‵ (hidden_at k d b o q) ∷ raw (FieldsBack 𝓛 q b o) ∷ ‵ (live_at q d b o) ∷ Γ) G)
       → Seq K 𝓛 (‵ (part_at B.the_row q d b o) ∷ ‵ T ∷ Γ) G
-  views-fields t z q d b o T c =
+  views_fields t z q d b o T c =
       use1 𝓛 (‵ (fields_at q d b o) ⊛ raw (FieldsBack 𝓛 q b o)) (fields_out 𝓛 q b o d) $ split t $ fsplit8 t $
       cell_out t u64 q d.live b (o + 0) (λ vs. spelt t u64 (Is u64) (shows 𝓛 u64) (uint_vals w64) (uint_Tells w64) q d.live vs b (o + 0) $
       move t (1 ∷ []) $ peeks t u64 (Is u64) (shows 𝓛 u64) d.live (vint w64 d.live ∷ []) (λ is.
@@ -294,9 +294,9 @@ module _ {M : Type 1} {𝓤 : Ura M} {𝓛 : Logic 𝓤} {K : Type 0} {Γ : List
       owned t u64 (Is u64) (uint_Makes 𝓛 w64) d.live (vint w64 d.live ∷ []) is $ move t (0 ∷ 2 ∷ 3 ∷ 4 ∷ 5 ∷ 6 ∷ 7 ∷ 10 ∷ []) $ fjoin8 t $
       move t (2 ∷ 1 ∷ 0 ∷ 4 ∷ 3 ∷ []) $ c (record { lifetime = ν; i = γ₁; a = γ₂; derives = γ₃; derivers = γ₄; manager = γ₅; rights = γ₆ }) is.1)))))))))
 
-  pub hides-fields : K → Soaks G → (k : Views) (q : Share) (d : Board) (b o : ℕ)
-      → Step K 𝓛 (‵ (part_at B.the_row q d b o) ∷ Γ) G (‵ (flft (k.lifetime ∷ []) full_share) ∷ ‵ (hiddenAt k d b o q) ∷ raw (FieldsBack 𝓛 q b o) ∷ ‵ (liveAt q d b o) ∷ Γ) G
-  hides-fields t z k q d b o = step (λ s.
+  pub hides_fields : K → Soaks G → (k : Views) (q : Share) (d : Board) (b o : ℕ)
+      → Step K 𝓛 (‵ (part_at B.the_row q d b o) ∷ Γ) G (‵ (flft (k.lifetime ∷ []) full_share) ∷ ‵ (hidden_at k d b o q) ∷ raw (FieldsBack 𝓛 q b o) ∷ ‵ (live_at q d b o) ∷ Γ) G
+  hides_fields t z k q d b o = step (λ s.
       lft_end t z $ move t (1 ∷ []) $ fsplit8 t $
       -- [what live owns; the lender's six parts; true; the lifetime is over; the way back; live's cell]
       move t (8 ∷ 6 ∷ []) $ hides t z (k.lifetime ∷ []) (part_at Bytes q d.rights b (o + 2120)) $ move t (1 ∷ 7 ∷ []) $ hides t z (k.lifetime ∷ []) (part_at Bytes q d.manager b (o + 2056)) $

@@ -39,14 +39,14 @@ module _ (T : Declared) (L : LL.Laws T) where
   Related d = Is R d (LL.vals T L d)
 
   -- a reference to it under the name γ, and what the two kinds own
-  abbrev pub refTo : ℕ → GName → T.D → MutBor T.D
-  refTo l γ d = record { ref_ptr = (l, 0); ghost_name = γ; now = d }
+  abbrev pub ref_to : ℕ → GName → T.D → MutBor T.D
+  ref_to l γ d = record { ref_ptr = (l, 0); ghost_name = γ; now = d }
 
   abbrev pub mutable : ℕ → ℕ → GName → T.D → Fml
-  mutable ν l γ d = (MutRef (named 0) (ν ∷ []) R).own_val (refTo l γ d) (vptr l 0 ∷ [])
+  mutable ν l γ d = (MutRef (named 0) (ν ∷ []) R).own_val (ref_to l γ d) (vptr l 0 ∷ [])
 
   abbrev pub shared : ℕ → ℕ → GName → T.D → Fml
-  shared ν l γ d = (ShrRef (named 0) (ν ∷ []) R).own_val (refTo l γ d) (vptr l 0 ∷ [])
+  shared ν l γ d = (ShrRef (named 0) (ν ∷ []) R).own_val (ref_to l γ d) (vptr l 0 ∷ [])
 
   -- the lender's part of each
   abbrev pub lent : ℕ → ℕ → GName → Fml

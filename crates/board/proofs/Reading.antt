@@ -8,31 +8,31 @@ use native.Mathlib.Omega.{arith}
 use lib.Dec.{ltb}
 use lib.ListN.{length, get_or-eq_default}
 use borrow.Author.Tests.{eq-eqb, ne_eqb, lt-ltb, le-ltb, ltb-false}
-use Rattle.hierarchy.specs.Views.{managerAt, stepsUp}
-use Rattle.board.specs.Kept.{managerFrom}
+use Rattle.hierarchy.specs.Views.{manager_at, steps_up}
+use Rattle.board.specs.Kept.{manager_from}
 use Rattle.board.specs.declared.kept.Manager.TheVariants.{Role, Nobody}
 
 -- ---- a manager as an answer
 
-pub from-role : (m k : ℕ) → m ≡ k → m < 64 → Role m ≡ managerFrom k
-unfolding managerFrom
-from-role m k e l = ap Role e ∙ sym (ap (λ (p : Bool). cond p (Role k) Nobody) (lt-ltb k 64 (omega arith)))
+pub from_role : (m k : ℕ) → m ≡ k → m < 64 → Role m ≡ manager_from k
+unfolding manager_from
+from_role m k e l = ap Role e ∙ sym (ap (λ (p : Bool). cond p (Role k) Nobody) (lt-ltb k 64 (omega arith)))
 
-pub from-none : (m k : ℕ) → m ≡ k → 64 ≤ m → Nobody ≡ managerFrom k
-unfolding managerFrom
-from-none m k e g = sym (ap (λ (p : Bool). cond p (Role k) Nobody) (le-ltb k 64 (omega arith)))
+pub from_none : (m k : ℕ) → m ≡ k → 64 ≤ m → Nobody ≡ manager_from k
+unfolding manager_from
+from_none m k e g = sym (ap (λ (p : Bool). cond p (Role k) Nobody) (le-ltb k 64 (omega arith)))
 
-pub role-of : (k m : ℕ) → managerFrom k ≡ Role m → m ≡ k
-unfolding managerFrom
-role-of k m = go (ltb k 64)
+pub role_of_lem : (k m : ℕ) → manager_from k ≡ Role m → m ≡ k
+unfolding manager_from
+role_of_lem k m = go (ltb k 64)
   where
     go : (p : Bool) → cond p (Role k) Nobody ≡ Role m → m ≡ k
     go true e = cc
     go false e = cc
 
-pub nobody-of : (k : ℕ) → managerFrom k ≡ Nobody → 64 ≤ k
-unfolding managerFrom
-nobody-of k = go (ltb k 64) refl
+pub nobody_of : (k : ℕ) → manager_from k ≡ Nobody → 64 ≤ k
+unfolding manager_from
+nobody_of k = go (ltb k 64) refl
   where
     go : (p : Bool) → ltb k 64 ≡ p → cond p (Role k) Nobody ≡ Nobody → 64 ≤ k
     go true q e = let z : k ≡ 64 = cc in omega arith
@@ -43,61 +43,61 @@ nobody-of k = go (ltb k 64) refl
 pub record Climbing (manager : List ℕ) (r x n : ℕ) : Type 0 where
   pub left : ℕ
   pub sum : left + n ≡ 64
-  pub same : stepsUp manager left n x ≡ stepsUp manager 64 0 r
+  pub same : steps_up manager left n x ≡ steps_up manager 64 0 r
 
-pub climb-start : (manager : List ℕ) (r : ℕ) → Climbing manager r r 0
-climb-start manager r = record { left = 64; sum = refl; same = refl }
+pub climb_start : (manager : List ℕ) (r : ℕ) → Climbing manager r r 0
+climb_start manager r = record { left = 64; sum = refl; same = refl }
 
 -- nobody is met past the row, so who is not there stays nowhere
-nowhere : (manager : List ℕ) (f k y : ℕ) → length manager ≡ 64 → 64 ≤ y → stepsUp manager f k y ≡ 64
-unfolding stepsUp
+nowhere : (manager : List ℕ) (f k y : ℕ) → length manager ≡ 64 → 64 ≤ y → steps_up manager f k y ≡ 64
+unfolding steps_up
 nowhere manager zero k y w g = refl
 nowhere manager (suc f) k y w g =
-    ap (λ (p : Bool). cond p k (stepsUp manager f (suc k) (managerAt manager y))) (ne_eqb y 0 (λ e. omega (arith, e)))
-    ∙ ap (stepsUp manager f (suc k)) (get_or-eq_default manager 64 {n = y} (omega arith))
+    ap (λ (p : Bool). cond p k (steps_up manager f (suc k) (manager_at manager y))) (ne_eqb y 0 (λ e. omega (arith, e)))
+    ∙ ap (steps_up manager f (suc k)) (get_or-eq_default manager 64 {n = y} (omega arith))
     ∙ nowhere manager f (suc k) 64 w (omega arith)
 
 module _ {manager : List ℕ} {r x n : ℕ} (inv : Climbing manager r x n) where
-  pub climb-arrived : n < 64 → x ≡ 0 → n ≡ stepsUp manager 64 0 r
-  unfolding stepsUp
-  climb-arrived l z = go inv.left inv.sum inv.same
+  pub climb_arrived : n < 64 → x ≡ 0 → n ≡ steps_up manager 64 0 r
+  unfolding steps_up
+  climb_arrived l z = go inv.left inv.sum inv.same
     where
-      go : (f : ℕ) → f + n ≡ 64 → stepsUp manager f n x ≡ stepsUp manager 64 0 r → n ≡ stepsUp manager 64 0 r
+      go : (f : ℕ) → f + n ≡ 64 → steps_up manager f n x ≡ steps_up manager 64 0 r → n ≡ steps_up manager 64 0 r
       go zero s e = absurd (omega arith)
-      go (suc f) s e = sym (ap (λ (p : Bool). cond p n (stepsUp manager f (suc n) (managerAt manager x))) (eq-eqb x 0 z)) ∙ e
+      go (suc f) s e = sym (ap (λ (p : Bool). cond p n (steps_up manager f (suc n) (manager_at manager x))) (eq-eqb x 0 z)) ∙ e
 
-  pub climb-turn : (m : ℕ) → n < 64 → x ≢ 0 → m ≡ managerAt manager x → Climbing manager r m (n + 1)
-  unfolding stepsUp
-  climb-turn m l z q = go inv.left inv.sum inv.same
+  pub climb_turn : (m : ℕ) → n < 64 → x ≢ 0 → m ≡ manager_at manager x → Climbing manager r m (n + 1)
+  unfolding steps_up
+  climb_turn m l z q = go inv.left inv.sum inv.same
     where
-      go : (f : ℕ) → f + n ≡ 64 → stepsUp manager f n x ≡ stepsUp manager 64 0 r → Climbing manager r m (n + 1)
+      go : (f : ℕ) → f + n ≡ 64 → steps_up manager f n x ≡ steps_up manager 64 0 r → Climbing manager r m (n + 1)
       go zero s e = absurd (omega arith)
       go (suc f) s e =
           let one : n + 1 ≡ suc n = omega arith in record {
             left = f;
             sum = omega arith;
             same =
-                ap (λ (k : ℕ). stepsUp manager f k m) one
-                ∙ ap (stepsUp manager f (suc n)) q
-                ∙ sym (ap (λ (p : Bool). cond p n (stepsUp manager f (suc n) (managerAt manager x))) (ne_eqb x 0 z))
+                ap (λ (k : ℕ). steps_up manager f k m) one
+                ∙ ap (steps_up manager f (suc n)) q
+                ∙ sym (ap (λ (p : Bool). cond p n (steps_up manager f (suc n) (manager_at manager x))) (ne_eqb x 0 z))
                 ∙ e;
           }
 
-  pub climb-none : n < 64 → x ≢ 0 → length manager ≡ 64 → 64 ≤ managerAt manager x → 64 ≡ stepsUp manager 64 0 r
-  unfolding stepsUp
-  climb-none l z w g = go inv.left inv.sum inv.same
+  pub climb_none : n < 64 → x ≢ 0 → length manager ≡ 64 → 64 ≤ manager_at manager x → 64 ≡ steps_up manager 64 0 r
+  unfolding steps_up
+  climb_none l z w g = go inv.left inv.sum inv.same
     where
-      go : (f : ℕ) → f + n ≡ 64 → stepsUp manager f n x ≡ stepsUp manager 64 0 r → 64 ≡ stepsUp manager 64 0 r
+      go : (f : ℕ) → f + n ≡ 64 → steps_up manager f n x ≡ steps_up manager 64 0 r → 64 ≡ steps_up manager 64 0 r
       go zero s e = absurd (omega arith)
       go (suc f) s e =
-          sym (nowhere manager f (suc n) (managerAt manager x) w g)
-          ∙ sym (ap (λ (p : Bool). cond p n (stepsUp manager f (suc n) (managerAt manager x))) (ne_eqb x 0 z))
+          sym (nowhere manager f (suc n) (manager_at manager x) w g)
+          ∙ sym (ap (λ (p : Bool). cond p n (steps_up manager f (suc n) (manager_at manager x))) (ne_eqb x 0 z))
           ∙ e
 
-  pub climb-stopped : 64 ≤ n → 64 ≡ stepsUp manager 64 0 r
-  unfolding stepsUp
-  climb-stopped g = go inv.left inv.sum inv.same
+  pub climb_stopped : 64 ≤ n → 64 ≡ steps_up manager 64 0 r
+  unfolding steps_up
+  climb_stopped g = go inv.left inv.sum inv.same
     where
-      go : (f : ℕ) → f + n ≡ 64 → stepsUp manager f n x ≡ stepsUp manager 64 0 r → 64 ≡ stepsUp manager 64 0 r
+      go : (f : ℕ) → f + n ≡ 64 → steps_up manager f n x ≡ steps_up manager 64 0 r → 64 ≡ steps_up manager 64 0 r
       go zero s e = e
       go (suc f) s e = absurd (omega arith)

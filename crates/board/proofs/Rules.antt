@@ -27,27 +27,27 @@ first_done (rule ∷ rest) e (inl p) = absurd (omega (arith, p.1, ltb-true 0 rul
 first_done (rule ∷ rest) e (inr p) = (p.0, first_done rest (and_right (ltb 0 rule.0) (numbered rest) e) p.1)
 
 -- without a rule the answer is done
-pub first-none : {n : ℕ} → First [] n → n ≡ 0
+pub first_none : {n : ℕ} → First [] n → n ≡ 0
 unfolding First
-first-none f = f
+first_none f = f
 
 -- of two tables in a row both are
-pub done-both : (xs ys : List (ℕ × Type 0)) → numbered xs ≡ true → First (xs ++ ys) 0 → Passed xs × First ys 0
+pub done_both : (xs ys : List (ℕ × Type 0)) → numbered xs ≡ true → First (xs ++ ys) 0 → Passed xs × First ys 0
 unfolding First
-done-both [] ys e f = (tt, f)
-done-both (rule ∷ rest) ys e (inl p) = absurd (omega (arith, p.1, ltb-true 0 rule.0 (and_left (ltb 0 rule.0) (numbered rest) e)))
-done-both (rule ∷ rest) ys e (inr p) = let q = done-both rest ys (and_right (ltb 0 rule.0) (numbered rest) e) p.1 in ((p.0, q.0), q.1)
+done_both [] ys e f = (tt, f)
+done_both (rule ∷ rest) ys e (inl p) = absurd (omega (arith, p.1, ltb-true 0 rule.0 (and_left (ltb 0 rule.0) (numbered rest) e)))
+done_both (rule ∷ rest) ys e (inr p) = let q = done_both rest ys (and_right (ltb 0 rule.0) (numbered rest) e) p.1 in ((p.0, q.0), q.1)
 
 -- a number that no rule has, and that isn't done's
 abbrev pub lacks : ℕ → List (ℕ × Type 0) → Bool
 lacks k [] = not (eqb 0 k)
 lacks k (rule ∷ rest) = not (eqb rule.0 k) && lacks k rest
 
-pub first-other : (k : ℕ) (rules : List (ℕ × Type 0)) → lacks k rules ≡ true → (n : ℕ) → First rules n → n ≢ k
+pub first_other : (k : ℕ) (rules : List (ℕ × Type 0)) → lacks k rules ≡ true → (n : ℕ) → First rules n → n ≢ k
 unfolding First
-first-other k [] e n f q = eqb-false 0 k (not-true (eqb 0 k) e) (sym f ∙ q)
-first-other k (rule ∷ rest) e n (inl p) q = eqb-false rule.0 k (not-true (eqb rule.0 k) (and_left (not (eqb rule.0 k)) (lacks k rest) e)) (sym p.1 ∙ q)
-first-other k (rule ∷ rest) e n (inr p) q = first-other k rest (and_right (not (eqb rule.0 k)) (lacks k rest) e) n p.1 q
+first_other k [] e n f q = eqb-false 0 k (not-true (eqb 0 k) e) (sym f ∙ q)
+first_other k (rule ∷ rest) e n (inl p) q = eqb-false rule.0 k (not-true (eqb rule.0 k) (and_left (not (eqb rule.0 k)) (lacks k rest) e)) (sym p.1 ∙ q)
+first_other k (rule ∷ rest) e n (inr p) q = first_other k rest (and_right (not (eqb rule.0 k)) (lacks k rest) e) n p.1 q
 
 -- two tables with the same numbers, whose conditions agree row by row
 abbrev pub Alike : List (ℕ × Type 0) → List (ℕ × Type 0) → Type 0
@@ -66,17 +66,17 @@ first_alike (x ∷ xs) (y ∷ ys) us vs n a f (inl p) = inl (a.1.0 p.0, p.1 ∙ 
 first_alike (x ∷ xs) (y ∷ ys) us vs n a f (inr p) = inr (λ k. p.0 (a.1.1 k), first_alike xs ys us vs n a.2 (λ q. f (p.0, q)) p.1)
 
 -- a row that never holds says nothing
-pub first-without : (k : ℕ) (X : Type 0) (rest : List (ℕ × Type 0)) (n : ℕ) → (X → ⊥) → First ((k, X) ∷ rest) n → First rest n
+pub first_without : (k : ℕ) (X : Type 0) (rest : List (ℕ × Type 0)) (n : ℕ) → (X → ⊥) → First ((k, X) ∷ rest) n → First rest n
 unfolding First
-first-without k X rest n never (inl p) = absurd (never p.0)
-first-without k X rest n never (inr p) = p.1
+first_without k X rest n never (inl p) = absurd (never p.0)
+first_without k X rest n never (inr p) = p.1
 
 -- a refusal of the first table is one of both
-pub first-refused : (xs ys : List (ℕ × Type 0)) (n : ℕ) → n ≢ 0 → First xs n → First (xs ++ ys) n
+pub first_refused : (xs ys : List (ℕ × Type 0)) (n : ℕ) → n ≢ 0 → First xs n → First (xs ++ ys) n
 unfolding First
-first-refused [] ys n h f = absurd (h f)
-first-refused (x ∷ xs) ys n h (inl p) = inl p
-first-refused (x ∷ xs) ys n h (inr p) = inr (p.0, first-refused xs ys n h p.1)
+first_refused [] ys n h f = absurd (h f)
+first_refused (x ∷ xs) ys n h (inl p) = inl p
+first_refused (x ∷ xs) ys n h (inr p) = inr (p.0, first_refused xs ys n h p.1)
 
 -- past the first table the second decides
 pub first_next : (xs ys : List (ℕ × Type 0)) (n : ℕ) → Passed xs → First ys n → First (xs ++ ys) n

@@ -9,10 +9,10 @@ use lib.Seq.{ext_get_or}
 use Rattle.hierarchy.specs.Tables.{Tables}
 use Rattle.hierarchy.specs.Views.{LiveLoops, RightValues}
 use Rattle.hierarchy.specs.First.{First}
-use Rattle.hierarchy.proofs.Admin.{sound-loopless}
-use Rattle.hierarchy.proofs.FirstLaws.{first-unique}
-use Rattle.hierarchy.proofs.ManagerLaws.{values-unique}
-use Rattle.board.specs.Boards.{tables_of, boardOf, KeepsRight, SoundBoard}
+use Rattle.hierarchy.proofs.Admin.{sound_loopless}
+use Rattle.hierarchy.proofs.FirstLaws.{first_unique}
+use Rattle.hierarchy.proofs.ManagerLaws.{values_unique}
+use Rattle.board.specs.Boards.{tables_of, board_of, KeepsRight, SoundBoard}
 use Rattle.board.specs.Asked.{Answered}
 use Rattle.board.specs.declared.Board.{Board}
 use Rattle.board.proofs.Rules.{stable}
@@ -24,36 +24,36 @@ by_number n f g = dite (ℕ_discrete n 0) f g
 -- ---- a board
 
 -- Tables without a loop, rights and right values leave one board,
-pub right-board : {b d : Board} → (LiveLoops (tables_of b) → ⊥) → KeepsRight b → KeepsRight d → tables_of b ≡ tables_of d → b.rights ≡ d.rights → b ≡ d
-right-board {b} {d} loopless v w e r =
-    let q = values-unique loopless v (subst (λ (t : Tables). RightValues t d.derives d.derivers d.manager) (sym e) w) in
-    λ k. boardOf (e k).live (e k).i (e k).a (q.0 k) (q.1.0 k) (q.1.1 k) (r k)
+pub right_board : {b d : Board} → (LiveLoops (tables_of b) → ⊥) → KeepsRight b → KeepsRight d → tables_of b ≡ tables_of d → b.rights ≡ d.rights → b ≡ d
+right_board {b} {d} loopless v w e r =
+    let q = values_unique loopless v (subst (λ (t : Tables). RightValues t d.derives d.derivers d.manager) (sym e) w) in
+    λ k. board_of (e k).live (e k).i (e k).a (q.0 k) (q.1.0 k) (q.1.1 k) (r k)
 
 -- and so do tables, rights and soundness.
-pub one-board : {b d : Board} → SoundBoard b → SoundBoard d → tables_of b ≡ tables_of d → b.rights ≡ d.rights → b ≡ d
-one-board s r e h = right-board (sound-loopless s.sound) s.right r.right e h
+pub one_board : {b d : Board} → SoundBoard b → SoundBoard d → tables_of b ≡ tables_of d → b.rights ≡ d.rights → b ≡ d
+one_board s r e h = right_board (sound_loopless s.sound) s.right r.right e h
 
 -- Two boards that can't differ don't: they are made of numbers.
-list-stable : (xs ys : List ℕ) → ((xs ≡ ys → ⊥) → ⊥) → xs ≡ ys
-list-stable xs ys h = ext_get_or 0 xs ys
+list_stable : (xs ys : List ℕ) → ((xs ≡ ys → ⊥) → ⊥) → xs ≡ ys
+list_stable xs ys h = ext_get_or 0 xs ys
     (stable (ℕ_discrete (length xs) (length ys)) (λ k. h (λ e. k (ap length e))))
     (λ n _. stable (ℕ_discrete (get_or xs n 0) (get_or ys n 0)) (λ k. h (λ e. k (ap (λ (l : List ℕ). get_or l n 0) e))))
 
-pub board-stable : (b d : Board) → ((b ≡ d → ⊥) → ⊥) → b ≡ d
-board-stable b d h = λ k. boardOf (live k) (part (λ x. x.i) k) (part (λ x. x.a) k) (part (λ x. x.derives) k) (part (λ x. x.derivers) k) (part (λ x. x.manager) k) (part (λ x. x.rights) k)
+pub board_stable : (b d : Board) → ((b ≡ d → ⊥) → ⊥) → b ≡ d
+board_stable b d h = λ k. board_of (live k) (part (λ x. x.i) k) (part (λ x. x.a) k) (part (λ x. x.derives) k) (part (λ x. x.derivers) k) (part (λ x. x.manager) k) (part (λ x. x.rights) k)
   where
     live : b.live ≡ d.live
     live = stable (ℕ_discrete b.live d.live) (λ n. h (λ e. n (ap (λ (x : Board). x.live) e)))
 
     part : (field : Board → List ℕ) → field b ≡ field d
-    part field = list-stable (field b) (field d) (λ n. h (λ e. n (ap field e)))
+    part field = list_stable (field b) (field d) (λ n. h (λ e. n (ap field e)))
 
 -- ---- a question, by whatever table, where one value is right
 
-pub answered-unique : {A : Type 0} {rules : List (ℕ × Type 0)} {Right : A → Type 0} {none : A} {m n : ℕ} {v w : A}
+pub answered_unique : {A : Type 0} {rules : List (ℕ × Type 0)} {Right : A → Type 0} {none : A} {m n : ℕ} {v w : A}
     → (First rules 0 → (v w : A) → Right v → Right w → v ≡ w) → Answered rules Right none m v → Answered rules Right none n w → (m ≡ n) × (v ≡ w)
-answered-unique {rules = rules} {m = m} {n = n} {v = v} {w = w} one d e =
-    let k = first-unique _ m n d.numbered e.numbered in (
+answered_unique {rules = rules} {m = m} {n = n} {v = v} {w = w} one d e =
+    let k = first_unique _ m n d.numbered e.numbered in (
       k,
       by_number m (λ z. one (subst (First rules) z d.numbered) v w (d.done z) (e.done (sym k ∙ z))) (λ z. d.refused z ∙ sym (e.refused (λ q. z (k ∙ q)))),
     )

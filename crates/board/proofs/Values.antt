@@ -11,11 +11,11 @@ use Rattle.board.proofs.Command.TheLaws as Cm'
 use Rattle.board.specs.contracts.answers.Answer as An
 use Rattle.board.proofs.answers.Answer.TheLaws as An'
 
-abbrev pub ofBoard : Board → Val
-ofBoard = val B.the_type B'.the_laws
+abbrev pub of_board : Board → Val
+of_board = val B.the_type B'.the_laws
 
-abbrev pub ofCommand : Command → Val
-ofCommand = val Cm.the_type Cm'.the_laws
+abbrev pub of_command : Command → Val
+of_command = val Cm.the_type Cm'.the_laws
 
-abbrev pub ofAnswer : Answer → Val
-ofAnswer = val An.the_type An'.the_laws
+abbrev pub of_answer : Answer → Val
+of_answer = val An.the_type An'.the_laws

@@ -3,21 +3,21 @@ use Rattle.std.specs.Prelude.{List, ◌∷◌, ℕ, replicate}
 use Rattle.hierarchy.specs.Tables.{Tables, tables}
 use Rattle.hierarchy.specs.Words.{Sound}
 use Rattle.hierarchy.specs.Views.{RightValues}
-use Rattle.board.specs.Rights.{foundingRights, RightsFit}
+use Rattle.board.specs.Rights.{founding_rights, RightsFit}
 use Rattle.board.specs.declared.Board.{Board}
 
 -- The one place where the mathematics sees the struct.
 abbrev pub tables_of : Board → Tables
 tables_of b = tables b.live b.i b.a
 
-abbrev pub boardOf : ℕ → List ℕ → List ℕ → List ℕ → List ℕ → List ℕ → List ℕ → Board
-boardOf live i a derives derivers manager rights =
+abbrev pub board_of : ℕ → List ℕ → List ℕ → List ℕ → List ℕ → List ℕ → List ℕ → Board
+board_of live i a derives derivers manager rights =
     record { live = live; i = i; a = a; derives = derives; derivers = derivers; manager = manager; rights = rights }
 
 -- Document 01's founding board: role 0 lives, and there is no edge. So role 0 derives itself, and nobody has a line manager. By request 4 it
 -- has all rights.
-unfoldable pub foundingBoard : Board
-foundingBoard = boardOf 1 (replicate 64 0) (replicate 64 0) (1 ∷ replicate 63 0) (1 ∷ replicate 63 0) (replicate 64 64) foundingRights
+unfoldable pub founding_board : Board
+founding_board = board_of 1 (replicate 64 0) (replicate 64 0) (1 ∷ replicate 63 0) (1 ∷ replicate 63 0) (replicate 64 64) founding_rights
 
 -- request 1: the values that the board keeps are those of its tables
 abbrev pub KeepsRight : Board → Type 0

@@ -4,5 +4,5 @@ use Rattle.board.specs.declared.kept.Manager.{Manager}
 use Rattle.board.specs.declared.kept.Manager.TheVariants.{Role, Nobody}
 
 -- a number above 63 is no manager
-unfoldable pub managerFrom : ℕ → Manager
-managerFrom m = cond (ltb m 64) (Role m) Nobody
+unfoldable pub manager_from : ℕ → Manager
+manager_from m = cond (ltb m 64) (Role m) Nobody

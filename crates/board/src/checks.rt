@@ -1,6 +1,6 @@
 // Whether a board is sound: its tables are, the values that it keeps are theirs, and only its live roles hold rights.
 ghost use Rattle.std.specs.Prelude.{◌≡◌, true, ◌↔◌, length};
-ghost use Rattle.board.specs.Boards.{boardOf, SoundBoard};
+ghost use Rattle.board.specs.Boards.{board_of, SoundBoard};
 
 use crate::Board;
 use crate::entries::joined;
@@ -47,7 +47,7 @@ pub fn sound_of<'t>(
     manager: &'t [u8; 64],
     rights: &'t [u8; 64],
 ) -> bool
-    ensures { (result ≡ true) ↔ SoundBoard (boardOf live i.now a.now derives.now derivers.now manager.now rights.now) }
+    ensures { (result ≡ true) ↔ SoundBoard (board_of live i.now a.now derives.now derivers.now manager.now rights.now) }
 {
     whole(*i);
     whole(*a);

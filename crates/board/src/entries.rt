@@ -1,6 +1,6 @@
 // Whether entries join live roles.
 ghost use Rattle.std.specs.Prelude.{◌≡◌, true, ◌↔◌, ℕ};
-ghost use Rattle.sets.specs.Sets.{◌isIn◌};
+ghost use Rattle.sets.specs.Sets.{◌is_in◌};
 ghost use Rattle.hierarchy.specs.Tables.{tables};
 ghost use Rattle.hierarchy.specs.Words.{Joined};
 
@@ -9,7 +9,7 @@ use sets::{has, union, within};
 
 // Whether role x may have these juniors: it has none, or all of them and itself live. Most roles have none, so that is asked first.
 fn joins_live(live: u64, x: usize, juniors: u64) -> bool
-    ensures { (result ≡ true) ↔ ((y : ℕ) → y isIn juniors → (x isIn live) × (y isIn live)) }
+    ensures { (result ≡ true) ↔ ((y : ℕ) → y is_in juniors → (x is_in live) × (y is_in live)) }
 {
     if juniors == 0 {
         return true;

@@ -1,10 +1,10 @@
 // What a board keeps, read without working anything out: for a page that shows a board all day. The answer is the one that stands in
 // what is lent, whatever that is; of a sound board it is document 01's (`Rattle.board.proofs.Keeping`).
 ghost use Rattle.std.specs.Prelude.{◌≡◌, ◌↔◌, ℕ};
-ghost use Rattle.sets.specs.Sets.{bit, ◌isIn◌};
+ghost use Rattle.sets.specs.Sets.{bit, ◌is_in◌};
 ghost use Rattle.hierarchy.specs.Tables.{row};
-ghost use Rattle.hierarchy.specs.Views.{ScopeBy, managerAt, stepsUp};
-ghost use Rattle.board.specs.Kept.{managerFrom};
+ghost use Rattle.hierarchy.specs.Views.{ScopeBy, manager_at, steps_up};
+ghost use Rattle.board.specs.Kept.{manager_from};
 
 use crate::Board;
 use hierarchy::shape::{whole, whole_row};
@@ -30,14 +30,14 @@ pub fn derives(derives: &[u64; 64], x: u32, y: u32) -> bool
 
 // The scope of a, as a set.
 pub fn scope<'v>(derives: &'v [u64; 64], derivers: &'v [u64; 64], a: u32) -> u64
-    ensures { (r : ℕ) → (r isIn result) ↔ ScopeBy derives.now derivers.now a r }
+    ensures { (r : ℕ) → (r is_in result) ↔ ScopeBy derives.now derivers.now a r }
 {
     scopes::scope(derives, derivers, a as usize)
 }
 
 // The line manager of r, or nobody.
 pub fn line_manager(manager: &[u8; 64], r: u32) -> Manager
-    ensures { result ≡ managerFrom (managerAt manager.now r) }
+    ensures { result ≡ manager_from (manager_at manager.now r) }
 {
     whole_row(*manager);
     if r < 64 {
@@ -51,7 +51,7 @@ pub fn line_manager(manager: &[u8; 64], r: u32) -> Manager
 
 // The steps from r to role 0 by line managers, or 64 where they don't lead there.
 pub fn steps(manager: &[u8; 64], r: u32) -> usize
-    ensures { result ≡ stepsUp manager.now 64 0 r }
+    ensures { result ≡ steps_up manager.now 64 0 r }
 {
     whole_row(*manager);
     let mut x = r;

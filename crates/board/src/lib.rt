@@ -1,7 +1,7 @@
 // The records that all else speaks of: a board, a command, its answer; the founding board, whether a board is sound, and what it keeps. Knows
 // the words of `hierarchy` and scopes; decides nothing.
 ghost use Rattle.std.specs.Prelude.{◌≡◌};
-ghost use Rattle.board.specs.Boards.{foundingBoard};
+ghost use Rattle.board.specs.Boards.{founding_board};
 
 pub mod answers;
 pub mod checks;
@@ -42,7 +42,7 @@ impl Board {
 
     // Role 0 lives and has all rights, and there is no edge.
     pub fn founding() -> Self
-        ensures { result ≡ foundingBoard }
+        ensures { result ≡ founding_board }
     {
         let none = [0u64; Board::ROLES];
         let mut itself = [0u64; Board::ROLES];

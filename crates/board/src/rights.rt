@@ -1,6 +1,6 @@
 // Whether a row of rights is right. A byte of rights is a set, with the right of command 1 as its lowest member.
 ghost use Rattle.std.specs.Prelude.{◌≡◌, true, ◌↔◌, ◌≤◌};
-ghost use Rattle.sets.specs.Sets.{◌isIn◌};
+ghost use Rattle.sets.specs.Sets.{◌is_in◌};
 ghost use Rattle.board.specs.Rights.{RightsFit};
 
 use crate::Board;
@@ -9,7 +9,7 @@ use sets::has;
 
 // Whether x may hold these rights: it lives, and they are among the five.
 fn may_hold(live: u64, x: usize, held: u8) -> bool
-    ensures { (result ≡ true) ↔ ((held ≤ 31) × (x isIn live)) }
+    ensures { (result ≡ true) ↔ ((held ≤ 31) × (x is_in live)) }
 {
     if Board::ALL_RIGHTS < held {
         return false;

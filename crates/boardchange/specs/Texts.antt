@@ -5,38 +5,38 @@ use Rattle.board.specs.declared.Command.{Command}
 use Rattle.board.specs.declared.answers.Answer.{Answer}
 use Rattle.runs.specs.Runs.{Ran}
 use Rattle.wording.specs.Texts.{pieces, word_at}
-use Rattle.wording.specs.Meanings.{meaningOf}
+use Rattle.wording.specs.Meanings.{meaning_of}
 use Rattle.wording.specs.declared.Meaning.{Meaning}
 use Rattle.wording.specs.declared.Meaning.TheVariants.{Means, Wrong}
 
 -- the command that a line means, if it means one
-abbrev pub meantBy : Meaning → List Command
-meantBy (Means c) = c ∷ []
-meantBy (Wrong k what) = []
+abbrev pub meant_by : Meaning → List Command
+meant_by (Means c) = c ∷ []
+meant_by (Wrong k what) = []
 
 -- a line of many is passed over where it has no word, or its first begins with '#'
 unfoldable pub passed? : List ℕ → Bool
 passed? line = eqb (length (word_at line 0)) 0 || eqb (get_or (word_at line 0) 0 0) 35
 
-abbrev pub lineCommands : List ℕ → List Command
-lineCommands line = cond (passed? line) [] (meantBy (meaningOf line))
+abbrev pub line_commands : List ℕ → List Command
+line_commands line = cond (passed? line) [] (meant_by (meaning_of line))
 
-unfoldable pub commandsOf : List (List ℕ) → List Command
-commandsOf [] = []
-commandsOf (line ∷ lines) = lineCommands line ++ commandsOf lines
+unfoldable pub commands_of : List (List ℕ) → List Command
+commands_of [] = []
+commands_of (line ∷ lines) = line_commands line ++ commands_of lines
 
 -- a text of many has a command a line; else it is one command
-abbrev pub textCommands : Bool → List ℕ → List Command
-textCommands true text = commandsOf (pieces 10 text)
-textCommands false text = meantBy (meaningOf text)
+abbrev pub text_commands : Bool → List ℕ → List Command
+text_commands true text = commands_of (pieces 10 text)
+text_commands false text = meant_by (meaning_of text)
 
 -- whether one of them was done
-unfoldable pub someDone : List Answer → Bool
-someDone [] = false
-someDone (a ∷ answers) = eqb a.number 0 || someDone answers
+unfoldable pub some_done : List Answer → Bool
+some_done [] = false
+some_done (a ∷ answers) = eqb a.number 0 || some_done answers
 
 -- the commands were given one by one, each to the board that the one before it left; this is the last board, and whether one was done
 pub record Gave (b : Board) (commands : List Command) (board : Board) (done : Bool) : Type 0 where
   pub answers : List Answer
   pub ran : Ran b commands answers board
-  pub told : done ≡ someDone answers
+  pub told : done ≡ some_done answers

@@ -1,10 +1,10 @@
 // The commands of a text, given one by one, each to the board that the one before it left. That board is lent part by part: by value
 // it would be copied at every call. Each function answers whether a command was done.
 ghost use Rattle.std.specs.Prelude.{◌≡◌, ◌||◌};
-ghost use Rattle.board.specs.Boards.{boardOf};
-ghost use Rattle.wording.specs.Meanings.{meaningOf};
+ghost use Rattle.board.specs.Boards.{board_of};
+ghost use Rattle.wording.specs.Meanings.{meaning_of};
 ghost use Rattle.wording.specs.Texts.{pieces};
-ghost use Rattle.boardchange.specs.Texts.{meantBy, passed?, lineCommands, commandsOf, textCommands, Gave};
+ghost use Rattle.boardchange.specs.Texts.{meant_by, passed?, line_commands, commands_of, text_commands, Gave};
 
 use crate::reasons::{say_answer, say_wrong};
 use commands::decide;
@@ -25,7 +25,7 @@ fn turn(
     number: u64,
     aloud: bool,
 ) -> bool
-    ensures { Gave (boardOf live.old i.old a.old derives.old derivers.old manager.old rights.old) (meantBy (meaningOf line.now)) (boardOf live.new i.new a.new derives.new derivers.new manager.new rights.new) result }
+    ensures { Gave (board_of live.old i.old a.old derives.old derivers.old manager.old rights.old) (meant_by (meaning_of line.now)) (board_of live.new i.new a.new derives.new derivers.new manager.new rights.new) result }
 {
     let m = meant(line);
     match m {
@@ -69,7 +69,7 @@ fn line_turn(
     number: u64,
     aloud: bool,
 ) -> bool
-    ensures { Gave (boardOf live.old i.old a.old derives.old derivers.old manager.old rights.old) (lineCommands line.now) (boardOf live.new i.new a.new derives.new derivers.new manager.new rights.new) result }
+    ensures { Gave (board_of live.old i.old a.old derives.old derivers.old manager.old rights.old) (line_commands line.now) (board_of live.new i.new a.new derives.new derivers.new manager.new rights.new) result }
 {
     if passed_over(line) {
         return false;
@@ -100,7 +100,7 @@ fn all_given(
     text: &[u8],
     aloud: bool,
 ) -> bool
-    ensures { Gave (boardOf live.old i.old a.old derives.old derivers.old manager.old rights.old) (commandsOf (pieces 10 text.now)) (boardOf live.new i.new a.new derives.new derivers.new manager.new rights.new) result }
+    ensures { Gave (board_of live.old i.old a.old derives.old derivers.old manager.old rights.old) (commands_of (pieces 10 text.now)) (board_of live.new i.new a.new derives.new derivers.new manager.new rights.new) result }
 {
     let n = text.len();
     let mut done = false;
@@ -140,7 +140,7 @@ pub(crate) fn given(
     many: bool,
     aloud: bool,
 ) -> bool
-    ensures { Gave (boardOf live.old i.old a.old derives.old derivers.old manager.old rights.old) (textCommands many text.now) (boardOf live.new i.new a.new derives.new derivers.new manager.new rights.new) result }
+    ensures { Gave (board_of live.old i.old a.old derives.old derivers.old manager.old rights.old) (text_commands many text.now) (board_of live.new i.new a.new derives.new derivers.new manager.new rights.new) result }
 {
     if many {
         return all_given(live, i, a, derives, derivers, manager, rights, text, aloud);

@@ -8,39 +8,39 @@ use Prim.Native.Nat.{ℕ, ◌+◌, ◌*◌, ◌/◌, ◌%◌, ◌^◌, ◌≤◌
 use native.Mathlib.Omega.{arith}
 use lib.ListN.{length, drop, take-append-drop, length-drop}
 use lib.Seq.{length-take-le, drop-drop}
-use Rattle.sets.specs.Sets.{bit, ◌isIn◌}
-use Rattle.sets.proofs.Bools.{lt-or-ge}
-use Rattle.sets.proofs.Digits.{bit-out}
+use Rattle.sets.specs.Sets.{bit, ◌is_in◌}
+use Rattle.sets.proofs.Bools.{lt_or_ge}
+use Rattle.sets.proofs.Digits.{bit_out}
 use Rattle.hierarchy.specs.Tables.{Tables, tables, row, Shaped, kind_of, kind}
 use Rattle.hierarchy.specs.Words.{Joined, Loops, Managed}
 use Rattle.hierarchy.specs.First.{First}
 use Rattle.hierarchy.specs.Views.{InOrder, WorkedOut}
 use Rattle.hierarchy.proofs.FirstLaws.{pass}
-use Rattle.board.specs.Rights.{rightsOf, RightsFit}
-use Rattle.board.specs.Boards.{boardOf, foundingBoard, SoundBoard}
+use Rattle.board.specs.Rights.{rights_of, RightsFit}
+use Rattle.board.specs.Boards.{board_of, founding_board, SoundBoard}
 use Rattle.board.specs.declared.Board.{Board}
 use Rattle.board.proofs.Rules.{first_alike}
-use Rattle.board.proofs.Looking.{disordered-loops, worked-sound, worked-right}
+use Rattle.board.proofs.Looking.{disordered_loops, worked_sound, worked_right}
 use Rattle.frames.specs.Frames.{BadFrame}
-use Rattle.frames.specs.Framing.{bodyLength, trailerOf, GoodFrame}
+use Rattle.frames.specs.Framing.{body_length, trailer_of, GoodFrame}
 use Rattle.frames.proofs.Bytes.{whole}
 use Rattle.frames.proofs.Frames.{announced}
-use Rattle.writer.specs.Files.{from, edgeBytes, kind_at, founding?}
-use Rattle.writer.proofs.EdgeBytes.{file-whole}
-use Rattle.writer.proofs.FoundingRights.{founding-itself, founding-fit}
+use Rattle.writer.specs.Files.{from, edge_bytes, kind_at, founding?}
+use Rattle.writer.proofs.EdgeBytes.{file_whole}
+use Rattle.writer.proofs.FoundingRights.{founding_itself, founding_fit}
 use Rattle.writer.proofs.OneFile.{at_place}
 use Rattle.boardfile.specs.Faults.{BadRecord}
 use Rattle.boardfile.specs.Parts.{GoodRoles, GoodEdges, Granted, Opening}
 use Rattle.boardfile.specs.Answers.{IsFile, TablesIn, refusals, ReadAnswer, ReadInto}
-use Rattle.boardfile.proofs.Faultless.{Tidy, good-records}
+use Rattle.boardfile.proofs.Faultless.{Tidy, good_records}
 use Rattle.boardfile.proofs.OneBoard.{named_by}
-use Rattle.boardfile.proofs.RoleBytes.{listed-many}
+use Rattle.boardfile.proofs.RoleBytes.{listed_many}
 
 -- ---- kinds
 
-pub kind-known : (t : Tables) (x y : ℕ) → kind t x y ≤ 3
+pub kind_known : (t : Tables) (x y : ℕ) → kind t x y ≤ 3
 unfolding kind
-kind-known t x y = go (bit (row t.i x) y) (bit (row t.a x) y)
+kind_known t x y = go (bit (row t.i x) y) (bit (row t.a x) y)
   where
     go : (p q : Bool) → kind_of p q ≤ 3
     go true true = omega arith
@@ -48,78 +48,78 @@ kind-known t x y = go (bit (row t.i x) y) (bit (row t.a x) y)
     go false true = omega arith
     go false false = omega arith
 
-pub edge-junior : (t : Tables) → ((x : ℕ) → row t.i x < 2 ^ 64) → ((x : ℕ) → row t.a x < 2 ^ 64) → (x y : ℕ) → kind t x y ≢ 0 → y < 64
+pub edge_junior : (t : Tables) → ((x : ℕ) → row t.i x < 2 ^ 64) → ((x : ℕ) → row t.a x < 2 ^ 64) → (x y : ℕ) → kind t x y ≢ 0 → y < 64
 unfolding kind
-edge-junior t fi fa x y h = ⊎_elim
+edge_junior t fi fa x y h = ⊎_elim
     (λ l. l)
-    (λ g. absurd (h (ap₂ kind_of (bit-out 64 (row t.i x) y (fi x) g) (bit-out 64 (row t.a x) y (fa x) g))))
-    (lt-or-ge y 64)
+    (λ g. absurd (h (ap₂ kind_of (bit_out 64 (row t.i x) y (fi x) g) (bit_out 64 (row t.a x) y (fa x) g))))
+    (lt_or_ge y 64)
 
 -- ---- the parts together
 
 module _ {f : List ℕ} {n m live : ℕ} {i a : List ℕ} (roles : GoodRoles f n live) (edges : GoodEdges f n m live i a) where
   shaped : Shaped (tables live i a)
   shaped = record {
-    live-fits = roles.fits;
-    i-rows = edges.i-table.rows;
-    a-rows = edges.a-table.rows;
-    i-fits = edges.i-table.fits;
-    a-fits = edges.a-table.fits;
+    live_fits = roles.fits;
+    i_rows = edges.i_table.rows;
+    a_rows = edges.a_table.rows;
+    i_fits = edges.i_table.fits;
+    a_fits = edges.a_table.fits;
   }
 
   tidy : Tidy (bit live) (kind_at (tables live i a))
   unfolding kind_at
-  tidy = record { root = roles.root; known = λ e. kind-known (tables live i a) (e / 64) (e % 64); fine = edges.fine }
+  tidy = record { root = roles.root; known = λ e. kind_known (tables live i a) (e / 64) (e % 64); fine = edges.fine }
 
   joined : Joined (tables live i a)
   joined x y h =
-      let l = edge-junior (tables live i a) edges.i-table.fits edges.a-table.fits x y h in
+      let l = edge_junior (tables live i a) edges.i_table.fits edges.a_table.fits x y h in
       let w = edges.fine (x * 64 + y) (λ e. h (sym (at_place (tables live i a) x y l) ∙ e)) in
       let xq : (x * 64 + y) / 64 ≡ x = omega arith in
       let yq : (x * 64 + y) % 64 ≡ y = omega arith in
-      (rw xq at w.senior-lives, rw yq at w.junior-lives)
+      (rw xq at w.senior_lives, rw yq at w.junior_lives)
 
 -- what is said of the rights, by whether the file has rights bytes
-granted-fit : (f : List ℕ) (n m live : ℕ) (rights : List ℕ) (w : Bool) → 0 isIn live → Granted f n m w live rights → RightsFit live rights
-granted-fit f n m live rights true root g = g.0.fit
-granted-fit f n m live rights false root g = rw g (founding-fit live root)
+granted_fit : (f : List ℕ) (n m live : ℕ) (rights : List ℕ) (w : Bool) → 0 is_in live → Granted f n m w live rights → RightsFit live rights
+granted_fit f n m live rights true root g = g.0.fit
+granted_fit f n m live rights false root g = rw g (founding_fit live root)
 
-granted-told : (f : List ℕ) (n m live : ℕ) (rights : List ℕ) (w : Bool) → Granted f n m w live rights → founding? rights ≡ not w
-granted-told f n m live rights true g = g.1
-granted-told f n m live rights false g = rw g founding-itself
+granted_told : (f : List ℕ) (n m live : ℕ) (rights : List ℕ) (w : Bool) → Granted f n m w live rights → founding? rights ≡ not w
+granted_told f n m live rights true g = g.1
+granted_told f n m live rights false g = rw g founding_itself
 
 module _ (f : List ℕ) (n m live : ℕ) (i a rights : List ℕ) (roles : GoodRoles f n live) (edges : GoodEdges f n m live i a) where
   abbrev rs : List ℕ
   rs = from 64 0 (bit live)
 
   abbrev es : List ℕ
-  es = edgeBytes (kind_at (tables live i a)) 4096 0
+  es = edge_bytes (kind_at (tables live i a)) 4096 0
 
   abbrev hs : List ℕ
-  hs = map (rightsOf rights) rs
+  hs = map (rights_of rights) rs
 
-  many-roles : n + 3 * m ≤ length f → length rs ≡ n
-  many-roles l = listed-many f n live roles.bytes (omega arith)
+  many_roles : n + 3 * m ≤ length f → length rs ≡ n
+  many_roles l = listed_many f n live roles.bytes (omega arith)
 
-  many-edges : n + 3 * m ≤ length f → length es ≡ 3 * m
-  many-edges l = ap length (sym edges.bytes) ∙ length-take-le (3 * m) (drop n f) (omega (arith, length-drop n f))
+  many_edges : n + 3 * m ≤ length f → length es ≡ 3 * m
+  many_edges l = ap length (sym edges.bytes) ∙ length-take-le (3 * m) (drop n f) (omega (arith, length-drop n f))
 
-  trailer-as : (plain : Bool) → n + 3 * m ≤ length f → trailerOf plain n (3 * m) ≡ trailerOf plain (length rs) (length es)
-  trailer-as plain l = ap₂ (trailerOf plain) (sym (many-roles l)) (sym (many-edges l))
+  trailer_as : (plain : Bool) → n + 3 * m ≤ length f → trailer_of plain n (3 * m) ≡ trailer_of plain (length rs) (length es)
+  trailer_as plain l = ap₂ (trailer_of plain) (sym (many_roles l)) (sym (many_edges l))
 
   -- what lies behind the edge records
-  behind : (w : Bool) → GoodFrame f n m w → Granted f n m w live rights → drop (n + 3 * m) f ≡ cond (not w) [] hs ++ trailerOf (not w) (length rs) (length es)
-  unfolding bodyLength
-  behind false frame g = frame.trailed.tail ∙ trailer-as true (announced frame).room
+  behind : (w : Bool) → GoodFrame f n m w → Granted f n m w live rights → drop (n + 3 * m) f ≡ cond (not w) [] hs ++ trailer_of (not w) (length rs) (length es)
+  unfolding body_length
+  behind false frame g = frame.trailed.tail ∙ trailer_as true (announced frame).room
   behind true frame g =
       sym (take-append-drop (length rs) (drop (n + 3 * m) f))
-      ∙ ap₂ ◌++◌ g.0.bytes (drop-drop (length rs) (n + 3 * m) f ∙ ap (λ (k : ℕ). drop (n + 3 * m + k) f) (many-roles (announced frame).room) ∙ frame.trailed.tail ∙ trailer-as false (announced frame).room)
+      ∙ ap₂ ◌++◌ g.0.bytes (drop-drop (length rs) (n + 3 * m) f ∙ ap (λ (k : ℕ). drop (n + 3 * m + k) f) (many_roles (announced frame).room) ∙ frame.trailed.tail ∙ trailer_as false (announced frame).room)
 
-  is-file : (w : Bool) → GoodFrame f n m w → Granted f n m w live rights → IsFile f (tables live i a) rights
-  is-file w frame g = record {
+  is_file : (w : Bool) → GoodFrame f n m w → Granted f n m w live rights → IsFile f (tables live i a) rights
+  is_file w frame g = record {
     shaped = shaped roles edges;
-    rightful = granted-fit f n m live rights w roles.root g;
-    bytes = parts ∙ ap (λ (p : Bool). whole p rs es hs) (sym (granted-told f n m live rights w g)) ∙ sym (file-whole (tables live i a) rights);
+    rightful = granted_fit f n m live rights w roles.root g;
+    bytes = parts ∙ ap (λ (p : Bool). whole p rs es hs) (sym (granted_told f n m live rights w g)) ∙ sym (file_whole (tables live i a) rights);
   }
     where
       parts : f ≡ whole (not w) rs es hs
@@ -131,13 +131,13 @@ module _ (f : List ℕ) (n m live : ℕ) (i a rights : List ℕ) (roles : GoodRo
 -- ---- the answers
 
 module _ {f : List ℕ} {n live : ℕ} {i a d u ms rights : List ℕ} where
-  pub refused-frame : BadFrame f → n ≡ 10 → Opening f n live i a d u ms rights
+  pub refused_frame : BadFrame f → n ≡ 10 → Opening f n live i a d u ms rights
   unfolding First
-  refused-frame h e = record { numbered = inl (h, e); done = λ z. absurd (omega arith) }
+  refused_frame h e = record { numbered = inl (h, e); done = λ z. absurd (omega arith) }
 
-  pub refused-record : (BadFrame f → ⊥) → BadRecord f → n ≡ 11 → Opening f n live i a d u ms rights
+  pub refused_record : (BadFrame f → ⊥) → BadRecord f → n ≡ 11 → Opening f n live i a d u ms rights
   unfolding First
-  refused-record g h e = record { numbered = inr (g, inl (h, e)); done = λ z. absurd (omega arith) }
+  refused_record g h e = record { numbered = inr (g, inl (h, e)); done = λ z. absurd (omega arith) }
 
 -- what a board's own trouble says of the file
 module _ {f : List ℕ} {t : Tables} {rights : List ℕ} (number : ℕ) (frame : BadFrame f → ⊥) (record' : BadRecord f → ⊥) (is : IsFile f t rights)
@@ -156,42 +156,42 @@ module _ {f : List ℕ} {live n m number : ℕ} {w : Bool} {i a d u ms : List �
   t = tables live i a
 
   is : IsFile f t rights
-  is = is-file f n m live i a rights roles edges w frame granted
+  is = is_file f n m live i a rights roles edges w frame granted
 
   faultless : BadRecord f → ⊥
-  faultless h = good-records t rights (tidy roles edges) is.rightful (subst BadRecord is.bytes h)
+  faultless h = good_records t rights (tidy roles edges) is.rightful (subst BadRecord is.bytes h)
 
   trouble : First (refusals f) number
   trouble = numbered number frame.faultless faultless is
-      (first_alike ((7, (InOrder t → ⊥)) ∷ (9, (Managed t → ⊥)) ∷ []) ((7, Loops t) ∷ (9, (Managed t → ⊥)) ∷ []) [] [] number (refl, disordered-loops is.shaped (joined roles edges), (refl, Iff.rfl, tt)) (λ _ g. g) worked.numbered)
+      (first_alike ((7, (InOrder t → ⊥)) ∷ (9, (Managed t → ⊥)) ∷ []) ((7, Loops t) ∷ (9, (Managed t → ⊥)) ∷ []) [] [] number (refl, disordered_loops is.shaped (joined roles edges), (refl, Iff.rfl, tt)) (λ _ g. g) worked.numbered)
 
-  pub opened-not : {k l : ℕ} → number ≢ 0 → k ≡ number → Opening f k l i a d u ms rights
-  opened-not z e = record { numbered = subst (First (refusals f)) (sym e) trouble; done = λ q. absurd (z (sym e ∙ q)) }
+  pub opened_not : {k l : ℕ} → number ≢ 0 → k ≡ number → Opening f k l i a d u ms rights
+  opened_not z e = record { numbered = subst (First (refusals f)) (sym e) trouble; done = λ q. absurd (z (sym e ∙ q)) }
 
   pub opened : number ≡ 0 → Opening f 0 live i a d u ms rights
   opened z = record {
     numbered = subst (First (refusals f)) z trouble;
-    done = λ _. (is, record { sound = worked-sound worked is.shaped roles.root (joined roles edges) z; right = worked-right worked z; rightful = is.rightful });
+    done = λ _. (is, record { sound = worked_sound worked is.shaped roles.root (joined roles edges) z; right = worked_right worked z; rightful = is.rightful });
   }
 
 -- ---- what a file that was opened says to the rest
 
 module _ {f : List ℕ} {number live : ℕ} {i a d u ms rights : List ℕ} (o : Opening f number live i a d u ms rights) where
-  pub read-refused : number ≢ 0 → ReadAnswer f number foundingBoard
-  read-refused z = record { numbered = o.numbered; done = λ e. absurd (z e); refused = λ _. refl }
+  pub read_refused : number ≢ 0 → ReadAnswer f number founding_board
+  read_refused z = record { numbered = o.numbered; done = λ e. absurd (z e); refused = λ _. refl }
 
-  pub into-refused : (entry : Board) → number ≢ 0 → ReadInto f entry entry number
-  into-refused entry z = record { numbered = o.numbered; done = λ e. absurd (z e); refused = λ _. refl }
+  pub into_refused : (entry : Board) → number ≢ 0 → ReadInto f entry entry number
+  into_refused entry z = record { numbered = o.numbered; done = λ e. absurd (z e); refused = λ _. refl }
 
   module _ (z : number ≡ 0) where
-    pub sound : SoundBoard (boardOf live i a d u ms rights)
+    pub sound : SoundBoard (board_of live i a d u ms rights)
     sound = (o.done z).1
 
     pub passed : First (refusals f) 0
     passed = subst (First (refusals f)) z o.numbered
 
-    pub read_done : ReadAnswer f 0 (boardOf live i a d u ms rights)
+    pub read_done : ReadAnswer f 0 (board_of live i a d u ms rights)
     read_done = record { numbered = passed; done = λ _. o.done z; refused = λ n. absurd (n refl) }
 
-    pub into-done : (entry : Board) → ReadInto f entry (boardOf live i a d u ms rights) 0
-    into-done entry = record { numbered = passed; done = λ _. read_done; refused = λ n. absurd (n refl) }
+    pub into_done : (entry : Board) → ReadInto f entry (board_of live i a d u ms rights) 0
+    into_done entry = record { numbered = passed; done = λ _. read_done; refused = λ n. absurd (n refl) }

@@ -1,11 +1,11 @@
 -- What the functions on a board file answer: the refusals of each in the order they are tried, and what goes with done and with a refusal.
 use Rattle.std.specs.Prelude.{◌≡◌, Bool, false, ◌⊎◌, ◌≢◌, List, [], ◌∷◌, ◌++◌, ℕ, ◌+◌, ◌-◌, ◌<◌}
-use Rattle.sets.specs.Sets.{◌isIn◌}
+use Rattle.sets.specs.Sets.{◌is_in◌}
 use Rattle.hierarchy.specs.Tables.{Tables, Shaped}
 use Rattle.hierarchy.specs.Words.{Derives, Scope, OutOfScope, Climb, Loops, Managed}
 use Rattle.hierarchy.specs.First.{First}
 use Rattle.board.specs.Rights.{RightsFit}
-use Rattle.board.specs.Boards.{tables_of, foundingBoard, SoundBoard}
+use Rattle.board.specs.Boards.{tables_of, founding_board, SoundBoard}
 use Rattle.board.specs.Answers.{plain}
 use Rattle.board.specs.Asked.{Answered}
 use Rattle.board.specs.declared.Board.{Board}
@@ -16,8 +16,8 @@ use Rattle.board.specs.declared.kept.Manager.TheVariants.{Nobody}
 use Rattle.questions.specs.Questions.{Says, Tells, Manages}
 use Rattle.commands.specs.Commands.{Decided}
 use Rattle.frames.specs.Frames.{BadFrame}
-use Rattle.writer.specs.Files.{fileOf, stretchOf}
-use Rattle.writer.specs.Writing.{startOrNone, Stands, WriteAnswer}
+use Rattle.writer.specs.Files.{file_of, stretch_of}
+use Rattle.writer.specs.Writing.{start_or_none, Stands, WriteAnswer}
 use Rattle.boardfile.specs.Faults.{BadRecord}
 use Rattle.boardfile.specs.declared.change.Place.{Place}
 use Rattle.boardfile.specs.declared.change.Place.TheVariants.{Asked, File, Writing}
@@ -26,9 +26,9 @@ use Rattle.boardfile.specs.declared.change.Place.TheVariants.{Asked, File, Writi
 pub record IsFile (f : List ℕ) (t : Tables) (rights : List ℕ) : Type 0 where
   pub shaped : Shaped t
   pub rightful : RightsFit t.live rights
-  pub bytes : f ≡ fileOf t rights
+  pub bytes : f ≡ file_of t rights
 
--- what is true of the tables whose file f is; there are no two such (`one-tables`)
+-- what is true of the tables whose file f is; there are no two such (`one_tables`)
 abbrev pub TablesIn : List ℕ → (Tables → Type 0) → Type 0
 TablesIn f P = (t : Tables) × ((rights : List ℕ) × IsFile f t rights) × P t
 
@@ -46,7 +46,7 @@ refusals f =
 pub record ReadAnswer (f : List ℕ) (number : ℕ) (board : Board) : Type 0 where
   pub numbered : First (refusals f) number
   pub done : number ≡ 0 → IsFile f (tables_of board) board.rights × SoundBoard board
-  pub refused : number ≢ 0 → board ≡ foundingBoard
+  pub refused : number ≢ 0 → board ≡ founding_board
 
 -- the same into a board that is lent: a refusal leaves what was there
 pub record ReadInto (f : List ℕ) (entry exit : Board) (number : ℕ) : Type 0 where
@@ -56,11 +56,11 @@ pub record ReadInto (f : List ℕ) (entry exit : Board) (number : ℕ) : Type 0 
 
 -- ---- a question about the board in a file, on the roles x and y: the reader's refusals, then 2, then 3
 
-abbrev pub askedRefusals : List ℕ → ℕ → ℕ → List (ℕ × Type 0)
-askedRefusals f x y =
+abbrev pub asked_refusals : List ℕ → ℕ → ℕ → List (ℕ × Type 0)
+asked_refusals f x y =
     refusals f
     ++ ((2, (63 < x) ⊎ (63 < y))
-    ∷ (3, TablesIn f (λ t. (x isIn t.live → ⊥) ⊎ (y isIn t.live → ⊥)))
+    ∷ (3, TablesIn f (λ t. (x is_in t.live → ⊥) ⊎ (y is_in t.live → ⊥)))
     ∷ [])
 
 -- what is right of the board that the file is read as
@@ -69,26 +69,26 @@ OfFile f Right value = (b : Board) × ReadAnswer f 0 b × Right b value
 
 -- document 01's four questions, with no, none or zero beside a refusal; by request 3 a no on scope says why
 abbrev pub DerivesOnFile : List ℕ → ℕ → ℕ → ℕ → Bool → Type 0
-DerivesOnFile f x y = Answered (askedRefusals f x y) (OfFile f (λ b. Says (Derives (tables_of b) x y))) false
+DerivesOnFile f x y = Answered (asked_refusals f x y) (OfFile f (λ b. Says (Derives (tables_of b) x y))) false
 
 abbrev pub ScopeOnFile : List ℕ → ℕ → ℕ → ℕ → Bool → ℕ → ℕ → ℕ → Type 0
 ScopeOnFile f a r number said count cause way =
-    Answered (askedRefusals f a r) (OfFile f (λ b. Tells (Scope (tables_of b) a) (OutOfScope (tables_of b) a) r)) (false, 0, 0, 0) number (said, count, cause, way)
+    Answered (asked_refusals f a r) (OfFile f (λ b. Tells (Scope (tables_of b) a) (OutOfScope (tables_of b) a) r)) (false, 0, 0, 0) number (said, count, cause, way)
 
 abbrev pub ManagerOnFile : List ℕ → ℕ → ℕ → Manager → Type 0
-ManagerOnFile f r = Answered (askedRefusals f r r) (OfFile f (λ b. Manages b r)) Nobody
+ManagerOnFile f r = Answered (asked_refusals f r r) (OfFile f (λ b. Manages b r)) Nobody
 
 abbrev pub StepsOnFile : List ℕ → ℕ → ℕ → ℕ → Type 0
-StepsOnFile f r = Answered (askedRefusals f r r) (OfFile f (λ b. Climb (tables_of b) r)) 0
+StepsOnFile f r = Answered (asked_refusals f r r) (OfFile f (λ b. Climb (tables_of b) r)) 0
 
 abbrev pub BoundsAnswer : List ℕ → ℕ → ℕ → ℕ → ℕ → Type 0
-BoundsAnswer f role number start len = Answered (askedRefusals f role role) (OfFile f (λ b. Stands role (tables_of b))) (0, 0) number (start, len)
+BoundsAnswer f role number start len = Answered (asked_refusals f role role) (OfFile f (λ b. Stands role (tables_of b))) (0, 0) number (start, len)
 
 -- the records themselves, and where they begin; no bytes where the number, whatever it is, isn't 0
 pub record StretchAnswer (f : List ℕ) (role : ℕ) (part : List ℕ) (start : ℕ) : Type 0 where
   pub number : ℕ
-  pub numbered : First (askedRefusals f role role) number
-  pub done : number ≡ 0 → TablesIn f (λ t. (part ≡ stretchOf t role) × (start ≡ startOrNone t role))
+  pub numbered : First (asked_refusals f role role) number
+  pub done : number ≡ 0 → TablesIn f (λ t. (part ≡ stretch_of t role) × (start ≡ start_or_none t role))
   pub refused : number ≢ 0 → (part ≡ []) × (start ≡ 0)
 
 -- ---- a command on the board in a file: read, decided, and written to the start of a buffer

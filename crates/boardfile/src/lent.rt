@@ -1,5 +1,5 @@
 // Reading for a caller whose board is lent part by part: a refusal leaves the parts.
-ghost use Rattle.board.specs.Boards.{boardOf};
+ghost use Rattle.board.specs.Boards.{board_of};
 ghost use Rattle.boardfile.specs.Answers.{ReadInto};
 
 use crate::opening::open;
@@ -15,7 +15,7 @@ pub fn read_into(
     manager: &mut [u8; 64],
     rights: &mut [u8; 64],
 ) -> u8
-    ensures { ReadInto file.now (boardOf live.old i.old a.old derives.old derivers.old manager.old rights.old) (boardOf live.new i.new a.new derives.new derivers.new manager.new rights.new) result }
+    ensures { ReadInto file.now (board_of live.old i.old a.old derives.old derivers.old manager.old rights.old) (board_of live.new i.new a.new derives.new derivers.new manager.new rights.new) result }
 {
     let mut new_i = [0u64; 64];
     let mut new_a = [0u64; 64];

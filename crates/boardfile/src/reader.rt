@@ -2,7 +2,7 @@
 // number, the role or the place senior * 64 + junior, and `next` is the least that may come.
 ghost use Rattle.std.specs.Prelude.{◌≡◌, ◌&&◌, ◌||◌, ℕ, ◌+◌, ◌≤◌, length, replicate};
 ghost use Rattle.sets.specs.Sets.{bit, same?};
-ghost use Rattle.frames.specs.Frames.{roleCount};
+ghost use Rattle.frames.specs.Frames.{role_count};
 ghost use Rattle.boardfile.specs.Parts.{Listing, Spelt, Judged, GoodRoles, Entering};
 ghost use Rattle.frames.specs.Framing.{Announced};
 
@@ -16,7 +16,7 @@ pub(crate) enum Roles {
 
 // The live roles, by the n bytes that list them.
 pub(crate) fn listed(file: &[u8], n: usize) -> Roles
-    requires { (roleCount file.now ≡ n) × (1 ≤ n) × (n ≤ length file.now) }
+    requires { (role_count file.now ≡ n) × (1 ≤ n) × (n ≤ length file.now) }
     ensures { Listing file.now n result }
 {
     if file[0] != 0 {

@@ -1,7 +1,7 @@
 // The edge records of one senior in a file: where they stand, and the part of the file that they are. The place is worked out from the
 // board, so that the file is read once.
 ghost use Rattle.hierarchy.specs.First.{First};
-ghost use Rattle.boardfile.specs.Answers.{askedRefusals, BoundsAnswer};
+ghost use Rattle.boardfile.specs.Answers.{asked_refusals, BoundsAnswer};
 ghost use Rattle.boardfile.specs.Stretches.{StretchOf};
 
 use crate::opening::open;
@@ -34,7 +34,7 @@ pub fn bounds(file: &[u8], role: u32) -> Span
 
 // The number that goes with a stretch.
 pub fn stretch_number(file: &[u8], role: u32) -> u8
-    ensures { First (askedRefusals file.now role role) result }
+    ensures { First (asked_refusals file.now role role) result }
 {
     bounds(file, role).number
 }

@@ -5,18 +5,18 @@ use mathlib.Core.Logic.Iff
 use mathlib.Core.Logic.{◌⊎◌, inl, inr, ⊎_elim, ⊎_map, ◌≢◌, ◌↔◌}
 use mathlib.Core.List.{List, [], ◌∷◌}
 use Prim.Native.Nat.{ℕ}
-use Rattle.sets.specs.Sets.{bit, ◌isIn◌, ◌areIn◌, NoRole}
-use Rattle.sets.proofs.Members.{Taken, taken-part, taken-kept}
+use Rattle.sets.specs.Sets.{bit, ◌is_in◌, ◌are_in◌, NoRole}
+use Rattle.sets.proofs.Members.{Taken, taken_part, taken_kept}
 use Rattle.hierarchy.specs.Tables.{Tables, tables, row, kind, Shaped}
 use Rattle.hierarchy.specs.First.{First}
 use Rattle.hierarchy.specs.Words.{Managed}
 use Rattle.hierarchy.specs.Views.{InOrder, Inward, AreViews}
 use Rattle.hierarchy.proofs.Checks.{or_is}
-use Rattle.hierarchy.proofs.Derive.{edge-entry}
-use Rattle.hierarchy.proofs.Decide.{live-loops-dec}
+use Rattle.hierarchy.proofs.Derive.{edge_entry}
+use Rattle.hierarchy.proofs.Decide.{live_loops_dec}
 use Rattle.hierarchy.proofs.FirstLaws.{hit, pass}
-use Rattle.hierarchy.proofs.Order.{order-no-loop, inward-order}
-use Rattle.hierarchy.proofs.ViewLaws.{admin-by}
+use Rattle.hierarchy.proofs.Order.{order_no_loop, inward_order}
+use Rattle.hierarchy.proofs.ViewLaws.{admin_by}
 use Rattle.board.specs.declared.Command.{Command}
 use Rattle.board.proofs.Rules.{stable}
 use Rattle.commands.specs.Commands.{Outside}
@@ -25,45 +25,45 @@ use Rattle.commands.specs.Trusting.{OutOfOrder, late, OutsideBy}
 -- ---- whether juniors of live roles are live: those of the roles in rest are not looked at yet
 
 pub record Looked (live : ℕ) (i a : List ℕ) (rest : ℕ) : Type 0 where
-  pub part : rest areIn live
-  pub done : (x : ℕ) → x isIn live → (x isIn rest) ⊎ ((y : ℕ) → kind (tables live i a) x y ≢ 0 → y isIn live)
+  pub part : rest are_in live
+  pub done : (x : ℕ) → x is_in live → (x is_in rest) ⊎ ((y : ℕ) → kind (tables live i a) x y ≢ 0 → y is_in live)
 
-pub looked-start : (live : ℕ) (i a : List ℕ) → Looked live i a live
-looked-start live i a = record { part = λ x m. m; done = λ x m. inl m }
+pub looked_start : (live : ℕ) (i a : List ℕ) → Looked live i a live
+looked_start live i a = record { part = λ x m. m; done = λ x m. inl m }
 
 module _ (live : ℕ) (i a : List ℕ) (x both : ℕ) (w : Bool) (both_is : (y : ℕ) → bit both y ≡ (bit (row i x) y || bit (row a x) y))
-    (test : (w ≡ true) ↔ (both areIn live)) where
-  joins : (y : ℕ) → (y isIn both) ↔ (kind (tables live i a) x y ≢ 0)
+    (test : (w ≡ true) ↔ (both are_in live)) where
+  joins : (y : ℕ) → (y is_in both) ↔ (kind (tables live i a) x y ≢ 0)
   joins y =
       let o = or_is {p = bit (row i x) y} Iff.rfl (Iff.rfl {A = bit (row a x) y ≡ true}) in
-      Iff.trans (λ m. o.0 (sym (both_is y) ∙ m), λ d. both_is y ∙ o.1 d) (Iff.symm (edge-entry (tables live i a) x y))
+      Iff.trans (λ m. o.0 (sym (both_is y) ∙ m), λ d. both_is y ∙ o.1 d) (Iff.symm (edge_entry (tables live i a) x y))
 
-  pub looked-turn : {rest rest' : ℕ} → Taken rest x rest' → w ≡ true → Looked live i a rest → Looked live i a rest'
-  looked-turn turn e inv = record {
-    part = λ z m. inv.part z (taken-part turn z m);
+  pub looked_turn : {rest rest' : ℕ} → Taken rest x rest' → w ≡ true → Looked live i a rest → Looked live i a rest'
+  looked_turn turn e inv = record {
+    part = λ z m. inv.part z (taken_part turn z m);
     done = λ z m. ⊎_elim
-        (λ k. ⊎_map (λ r. r) (λ q. subst (λ (n : ℕ). (y : ℕ) → kind (tables live i a) n y ≢ 0 → y isIn live) (sym q) (λ y h. test.0 e y ((joins y).1 h))) (taken-kept turn z k))
+        (λ k. ⊎_map (λ r. r) (λ q. subst (λ (n : ℕ). (y : ℕ) → kind (tables live i a) n y ≢ 0 → y is_in live) (sym q) (λ y h. test.0 e y ((joins y).1 h))) (taken_kept turn z k))
         inr (inv.done z m);
   }
 
-  pub looked-out : {rest : ℕ} → x isIn rest → w ≡ false → Looked live i a rest → Inward (tables live i a) → ⊥
-  looked-out m e inv inward = false≢true (sym e ∙ test.1 (λ y k. inward x y (inv.part x m) ((joins y).0 k)))
+  pub looked_out : {rest : ℕ} → x is_in rest → w ≡ false → Looked live i a rest → Inward (tables live i a) → ⊥
+  looked_out m e inv inward = false≢true (sym e ∙ test.1 (λ y k. inward x y (inv.part x m) ((joins y).0 k)))
 
-pub looked-in : (live : ℕ) (i a : List ℕ) {rest : ℕ} → NoRole rest → Looked live i a rest → Inward (tables live i a)
-looked-in live i a empty inv x y l h = ⊎_elim (λ m. absurd (false≢true (sym (empty.none x) ∙ m))) (λ f. f y h) (inv.done x l)
+pub looked_in : (live : ℕ) (i a : List ℕ) {rest : ℕ} → NoRole rest → Looked live i a rest → Inward (tables live i a)
+looked_in live i a empty inv x y l h = ⊎_elim (λ m. absurd (false≢true (sym (empty.none x) ∙ m))) (λ f. f y h) (inv.done x l)
 
 -- ---- the rows on the tables that a command would leave, by whether they are in order
 
-pub late-disordered : (t : Tables) (c : Command) (n : ℕ) → Shaped t → (InOrder t → ⊥) → OutOfOrder t n → First (late t c) n
-late-disordered t c n shaped without (inl w) =
+pub late_disordered : (t : Tables) (c : Command) (n : ℕ) → Shaped t → (InOrder t → ⊥) → OutOfOrder t n → First (late t c) n
+late_disordered t c n shaped without (inl w) =
     subst (First (late t c)) (sym w.1) (pass _ _ _ _ (λ k. k.outward w.0)
-    (hit _ _ _ (stable (live-loops-dec shaped) (λ m. without ((inward-order shaped.live-fits w.0).1 m)))))
-late-disordered t c n shaped without (inr w) = subst (First (late t c)) (sym w.1) (hit _ _ _ (record { disordered = without; outward = w.0 }))
+    (hit _ _ _ (stable (live_loops_dec shaped) (λ m. without ((inward_order shaped.live_fits w.0).1 m)))))
+late_disordered t c n shaped without (inr w) = subst (First (late t c)) (sym w.1) (hit _ _ _ (record { disordered = without; outward = w.0 }))
 
-pub late-ordered : (t : Tables) (c : Command) (n : ℕ) → ((InOrder t → ⊥) → ⊥) → First ((8, Outside t c) ∷ (9, (Managed t → ⊥)) ∷ []) n → First (late t c) n
-late-ordered t c n order f = pass _ _ _ _ (λ k. order k.disordered) (pass _ _ _ _ (λ l. order (λ o. order-no-loop o l)) f)
+pub late_ordered : (t : Tables) (c : Command) (n : ℕ) → ((InOrder t → ⊥) → ⊥) → First ((8, Outside t c) ∷ (9, (Managed t → ⊥)) ∷ []) n → First (late t c) n
+late_ordered t c n order f = pass _ _ _ _ (λ k. order k.disordered) (pass _ _ _ _ (λ l. order (λ o. order_no_loop o l)) f)
 
 -- row 8
 module _ (b : Tables) (c : Command) where
-  pub outside-row : {down up : List ℕ} → AreViews b down up → OutsideBy down up c ↔ Outside b c
-  outside-row v = (λ o. record { adds = o.adds; outside = λ a. o.outside ((admin-by v).1 a) }, λ o. record { adds = o.adds; outside = λ a. o.outside ((admin-by v).0 a) })
+  pub outside_row : {down up : List ℕ} → AreViews b down up → OutsideBy down up c ↔ Outside b c
+  outside_row v = (λ o. record { adds = o.adds; outside = λ a. o.outside ((admin_by v).1 a) }, λ o. record { adds = o.adds; outside = λ a. o.outside ((admin_by v).0 a) })

@@ -1,7 +1,7 @@
 -- Request 4: what a command does to the rights.
 use Rattle.std.specs.Prelude.{Bool, cond, not, ◌&&◌, ◌||◌, List, ℕ, eqb}
-use Rattle.sets.specs.Sets.{bit, setOf}
-use Rattle.board.specs.Rights.{rightsOf}
+use Rattle.sets.specs.Sets.{bit, set_of}
+use Rattle.board.specs.Rights.{rights_of}
 use Rattle.board.specs.declared.Command.{Command}
 use Rattle.effects.specs.Effects.{list_of}
 
@@ -18,5 +18,5 @@ holds c old x k =
     old)))
 
 -- the whole row afterwards
-unfoldable pub rightsAfter : Command → List ℕ → List ℕ
-rightsAfter c rights = list_of 64 (λ x. setOf (λ k. holds c (bit (rightsOf rights x) k) x k))
+unfoldable pub rights_after : Command → List ℕ → List ℕ
+rights_after c rights = list_of 64 (λ x. set_of (λ k. holds c (bit (rights_of rights x) k) x k))

@@ -9,9 +9,9 @@ use Rattle.board.specs.declared.Board.{Board}
 use Rattle.board.specs.declared.Command.{Command}
 use Rattle.board.specs.declared.answers.Answer.{Answer}
 use Rattle.effects.specs.Effects.{after}
-use Rattle.refusals.specs.Entitled.{namesRights}
-use Rattle.refusals.specs.Trusting.{BlamesBy, beforeTrusting}
-use Rattle.commands.specs.Commands.{pastLoops, DecidedBy}
+use Rattle.refusals.specs.Entitled.{names_rights}
+use Rattle.refusals.specs.Trusting.{BlamesBy, before_trusting}
+use Rattle.commands.specs.Commands.{past_loops, DecidedBy}
 
 -- The tables that the command would leave show that the board handed in was not sound: the live roles are not in order, and one has a
 -- junior that isn't live. Soundness isn't checked before; this row applies when working the tables out meets such a junior.
@@ -21,7 +21,7 @@ pub record Torn (t : Tables) : Type 0 where
 
 -- the rows afterwards; a loop is one of live roles, as every loop of a sound board's roles would be
 abbrev pub late : Tables → Command → List (ℕ × Type 0)
-late t c = (1, Torn t) ∷ (7, LiveLoops t) ∷ pastLoops t c
+late t c = (1, Torn t) ∷ (7, LiveLoops t) ∷ past_loops t c
 
 -- why there is no order, by number
 abbrev pub OutOfOrder : Tables → ℕ → Type 0
@@ -39,7 +39,7 @@ pub record LateBy (t : Tables) (c : Command) (number : ℕ) (derives derivers ma
 
 -- the tables of a command and what is worked out for them, in place
 pub record RemadeHere (t : Tables) (c : Command) (number : ℕ) (next : Tables) (derives derivers manager : List ℕ) : Type 0 where
-  pub tables-are : next ≡ after t c
+  pub tables_are : next ≡ after t c
   pub tried : LateBy next c number derives derivers manager
 
 -- tables and what is kept made anew, unless a row afterwards holds
@@ -49,12 +49,12 @@ pub record Remade (b : Board) (c : Command) (number : ℕ) (board : Board) : Typ
   pub refused : number ≢ 0 → board ≡ b
 
 -- The rows afterwards are tried where a command may change the tables: 6 and 7 don't, and leave what the board keeps as it is.
-abbrev pub lateOf : Tables → Command → List (ℕ × Type 0)
-lateOf t c = cond (namesRights c) [] (late t c)
+abbrev pub late_of : Tables → Command → List (ℕ × Type 0)
+late_of t c = cond (names_rights c) [] (late t c)
 
 pub record KeptTrusting (b : Board) (c : Command) (board : Board) : Type 0 where
-  pub worked-out : c.code ≤ 5 → KeepsRight board
+  pub worked_out : c.code ≤ 5 → KeepsRight board
   pub left : 5 < c.code → (board.derives ≡ b.derives) × (board.derivers ≡ b.derivers) × (board.manager ≡ b.manager)
 
 abbrev pub DecidedTrusting : Board → Command → Answer → Board → Type 0
-DecidedTrusting b c = DecidedBy (beforeTrusting b c ++ lateOf (after (tables_of b) c) c) (BlamesBy b.derives b.derivers c) (KeptTrusting b c) b c
+DecidedTrusting b c = DecidedBy (before_trusting b c ++ late_of (after (tables_of b) c) c) (BlamesBy b.derives b.derivers c) (KeptTrusting b c) b c

@@ -1,7 +1,7 @@
 // The rows on the tables that a command would leave, and the change where none of them refuses it.
 ghost use Rattle.std.specs.Prelude.{◌≡◌, true, ◌↔◌, List, ℕ};
 ghost use Rattle.hierarchy.specs.Tables.{tables, IsTable};
-ghost use Rattle.board.specs.Boards.{boardOf};
+ghost use Rattle.board.specs.Boards.{board_of};
 ghost use Rattle.commands.specs.Trusting.{OutOfOrder, OutsideBy, LateBy, RemadeHere, Remade};
 
 use board::Command;
@@ -87,7 +87,7 @@ pub(crate) fn change_if_allowed(
     manager: &mut [u8; 64],
     c: Command,
 ) -> u8
-    ensures { (rights : List ℕ) → Remade (boardOf live.old i.old a.old derives.old derivers.old manager.old rights) c result (boardOf live.new i.new a.new derives.new derivers.new manager.new rights) }
+    ensures { (rights : List ℕ) → Remade (board_of live.old i.old a.old derives.old derivers.old manager.old rights) c result (board_of live.new i.new a.new derives.new derivers.new manager.new rights) }
 {
     let mut new_live = *live;
     let mut new_i = *i;

@@ -7,7 +7,7 @@ mod afterwards;
 pub mod lent;
 mod rights;
 
-ghost use Rattle.board.specs.Boards.{boardOf};
+ghost use Rattle.board.specs.Boards.{board_of};
 ghost use Rattle.commands.specs.Commands.{Decided};
 ghost use Rattle.commands.specs.Trusting.{DecidedTrusting};
 
@@ -39,7 +39,7 @@ pub fn decide_trusting(
     rights: &mut [u8; 64],
     c: Command,
 ) -> Answer
-    ensures { DecidedTrusting (boardOf live.old i.old a.old derives.old derivers.old manager.old rights.old) c result (boardOf live.new i.new a.new derives.new derivers.new manager.new rights.new) }
+    ensures { DecidedTrusting (board_of live.old i.old a.old derives.old derivers.old manager.old rights.old) c result (board_of live.new i.new a.new derives.new derivers.new manager.new rights.new) }
 {
     let first = refused_on_board(*live, i, a, derives, derivers, rights, c);
     if first.number != 0 {
@@ -70,7 +70,7 @@ pub fn decide(
     rights: &mut [u8; 64],
     c: Command,
 ) -> Answer
-    ensures { Decided (boardOf live.old i.old a.old derives.old derivers.old manager.old rights.old) c result (boardOf live.new i.new a.new derives.new derivers.new manager.new rights.new) }
+    ensures { Decided (board_of live.old i.old a.old derives.old derivers.old manager.old rights.old) c result (board_of live.new i.new a.new derives.new derivers.new manager.new rights.new) }
 {
     if !sound_of(*live, i, a, derives, derivers, manager, rights) {
         return Answer::plain(1);

@@ -1,8 +1,8 @@
 -- What each command does, member by member: the column "Effect" of document 01's table, with commands 3 and 4 as request 2 has them. What no
 -- line names stays as it was.
 use Rattle.std.specs.Prelude.{Bool, cond, not, ◌&&◌, ◌||◌, List, [], ◌∷◌, ℕ, zero, suc, eqb}
-use Rattle.sets.specs.Sets.{bit, setOf}
-use Rattle.hierarchy.specs.Tables.{Tables, tables, row, hasI, hasA}
+use Rattle.sets.specs.Sets.{bit, set_of}
+use Rattle.hierarchy.specs.Tables.{Tables, tables, row, has_i, has_a}
 use Rattle.board.specs.declared.Command.{Command}
 
 -- whether x lives afterwards, by whether it lived: command 1 adds its role, command 2 removes it
@@ -35,12 +35,12 @@ list_of zero f = []
 list_of (suc n) f = f 0 ∷ list_of n (λ k. f (suc k))
 
 -- a whole table afterwards
-unfoldable pub tableAfter : Command → ℕ → ℕ → Bool → List ℕ → List ℕ
-tableAfter c seniors juniors part t = list_of 64 (λ x. setOf (λ y. entry c seniors juniors part (bit (row t x) y) x y))
+unfoldable pub table_after : Command → ℕ → ℕ → Bool → List ℕ → List ℕ
+table_after c seniors juniors part t = list_of 64 (λ x. set_of (λ y. entry c seniors juniors part (bit (row t x) y) x y))
 
 -- The tables afterwards, which commands 6 and 7 leave. What a board keeps besides follows from them, so no line has to name it.
 unfoldable pub after : Tables → Command → Tables
 after t c = tables
-    (setOf (λ x. lives c (bit t.live x) x))
-    (tableAfter c c.i_seniors c.i_juniors (hasI c.kind) t.i)
-    (tableAfter c c.a_seniors c.a_juniors (hasA c.kind) t.a)
+    (set_of (λ x. lives c (bit t.live x) x))
+    (table_after c c.i_seniors c.i_juniors (has_i c.kind) t.i)
+    (table_after c c.a_seniors c.a_juniors (has_a c.kind) t.a)

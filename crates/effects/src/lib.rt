@@ -4,8 +4,8 @@ mod tables;
 
 ghost use Rattle.std.specs.Prelude.{◌≡◌};
 ghost use Rattle.hierarchy.specs.Tables.{tables, IsTable};
-ghost use Rattle.sets.specs.Sets.{bit, setOf};
-ghost use Rattle.effects.specs.Effects.{lives, tableAfter, after};
+ghost use Rattle.sets.specs.Sets.{bit, set_of};
+ghost use Rattle.effects.specs.Effects.{lives, table_after, after};
 
 use board::Command;
 use board::parts::has_part;
@@ -17,7 +17,7 @@ use tables::{enter, leave, row_of, set_row};
 // its part.
 fn edit(t: &mut [u64; 64], c: Command, seniors: u64, juniors: u64, part: bool)
     requires { IsTable t.old }
-    ensures { t.new ≡ tableAfter c seniors juniors part t.old }
+    ensures { t.new ≡ table_after c seniors juniors part t.old }
 {
     let code = c.code;
     let role = c.role as usize;
@@ -49,7 +49,7 @@ fn edit(t: &mut [u64; 64], c: Command, seniors: u64, juniors: u64, part: bool)
 
 // The live roles afterwards.
 fn living(live: u64, c: Command) -> u64
-    ensures { result ≡ setOf (λ x. lives c (bit live x) x) }
+    ensures { result ≡ set_of (λ x. lives c (bit live x) x) }
 {
     let role = c.role as usize;
     if c.code == 1 {

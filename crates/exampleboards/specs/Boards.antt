@@ -28,13 +28,13 @@ unfoldable pub F : Tables
 F = record { live = 0b11011; i = 0b10010 ∷ 0 ∷ 0 ∷ 0b10000 ∷ replicate 60 0; a = 0 ∷ 0b01000 ∷ replicate 62 0 }
 
 -- Request 4: on each of these boards roles 0 and 1 hold all five rights to begin with.
-abbrev pub startRights : List ℕ
-startRights = 31 ∷ 31 ∷ replicate 62 0
+abbrev pub start_rights : List ℕ
+start_rights = 31 ∷ 31 ∷ replicate 62 0
 
 -- b is a board of these tables and rights
 pub record Of (t : Tables) (rights : List ℕ) (b : Board) : Type 0 where
-  pub tables-are : tables_of b ≡ t
-  pub rights-are : b.rights ≡ rights
+  pub tables_are : tables_of b ≡ t
+  pub rights_are : b.rights ≡ rights
 
 -- the kinds by their letters
 abbrev pub I : ℕ
@@ -49,22 +49,22 @@ IA = 3
 -- The commands of the examples. What a command does not use is 0.
 
 -- a role added between seniors and juniors; under seniors alone
-abbrev pub addBetween : (actor role a-seniors i-seniors a-juniors i-juniors : ℕ) → Command
-addBetween actor role a-seniors i-seniors a-juniors i-juniors = record {
+abbrev pub add_between : (actor role a_seniors i_seniors a_juniors i_juniors : ℕ) → Command
+add_between actor role a_seniors i_seniors a_juniors i_juniors = record {
   code = 1;
   actor = actor;
   role = role;
   junior = 0;
   kind = 0;
   rights = 0;
-  a_seniors = a-seniors;
-  i_seniors = i-seniors;
-  a_juniors = a-juniors;
-  i_juniors = i-juniors;
+  a_seniors = a_seniors;
+  i_seniors = i_seniors;
+  a_juniors = a_juniors;
+  i_juniors = i_juniors;
 }
 
-abbrev pub addRole : (actor role a-seniors i-seniors : ℕ) → Command
-addRole actor role a-seniors i-seniors = addBetween actor role a-seniors i-seniors 0 0
+abbrev pub add_role : (actor role a_seniors i_seniors : ℕ) → Command
+add_role actor role a_seniors i_seniors = add_between actor role a_seniors i_seniors 0 0
 
 -- the others, which name no sets; a code above 7 is no command's
 abbrev pub command : (code actor role junior kind rights : ℕ) → Command
@@ -81,21 +81,21 @@ command code actor role junior kind rights = record {
   i_juniors = 0;
 }
 
-abbrev pub removeRole : (actor role : ℕ) → Command
-removeRole actor role = command 2 actor role 0 0 0
+abbrev pub remove_role : (actor role : ℕ) → Command
+remove_role actor role = command 2 actor role 0 0 0
 
-abbrev pub addEdge : (actor senior junior kind : ℕ) → Command
-addEdge actor senior junior kind = command 3 actor senior junior kind 0
+abbrev pub add_edge : (actor senior junior kind : ℕ) → Command
+add_edge actor senior junior kind = command 3 actor senior junior kind 0
 
-abbrev pub removeEdge : (actor senior junior kind : ℕ) → Command
-removeEdge actor senior junior kind = command 4 actor senior junior kind 0
+abbrev pub remove_edge : (actor senior junior kind : ℕ) → Command
+remove_edge actor senior junior kind = command 4 actor senior junior kind 0
 
-abbrev pub changeEdge : (actor senior junior kind : ℕ) → Command
-changeEdge actor senior junior kind = command 5 actor senior junior kind 0
+abbrev pub change_edge : (actor senior junior kind : ℕ) → Command
+change_edge actor senior junior kind = command 5 actor senior junior kind 0
 
 -- rights are written in binary too, that of command 1 at the right end
-abbrev pub giveRights : (actor role rights : ℕ) → Command
-giveRights actor role = command 6 actor role 0 0
+abbrev pub give_rights : (actor role rights : ℕ) → Command
+give_rights actor role = command 6 actor role 0 0
 
-abbrev pub takeRights : (actor role rights : ℕ) → Command
-takeRights actor role = command 7 actor role 0 0
+abbrev pub take_rights : (actor role rights : ℕ) → Command
+take_rights actor role = command 7 actor role 0 0

@@ -2,14 +2,14 @@
 // the board and the rules, and none of their functions but `work_out`.
 ghost use Rattle.std.specs.Prelude.{◌≡◌};
 ghost use Rattle.hierarchy.specs.Tables.{tables};
-ghost use Rattle.exampleboards.specs.Boards.{startRights, Of, P, W, L, E, F, command, addBetween, addRole, removeRole, addEdge, removeEdge, changeEdge, giveRights, takeRights};
+ghost use Rattle.exampleboards.specs.Boards.{start_rights, Of, P, W, L, E, F, command, add_between, add_role, remove_role, add_edge, remove_edge, change_edge, give_rights, take_rights};
 
 use board::{Board, Command};
 use hierarchy::working::work_out;
 
 // The board of these tables, with all rights at roles 0 and 1; what it keeps is worked out.
 fn of(live: u64, i: [u64; 64], a: [u64; 64]) -> Board
-    ensures { Of (tables live i a) startRights result }
+    ensures { Of (tables live i a) start_rights result }
 {
     let mut derives = [0u64; 64];
     let mut derivers = [0u64; 64];
@@ -31,7 +31,7 @@ fn of(live: u64, i: [u64; 64], a: [u64; 64]) -> Board
 
 // 0 I 1, 1 I 2, 1 A 3
 pub fn p() -> Board
-    ensures { Of P startRights result }
+    ensures { Of P start_rights result }
 {
     let mut i = [0u64; Board::ROLES];
     i[0] = 0b0010;
@@ -43,7 +43,7 @@ pub fn p() -> Board
 
 // 0 I 1, 0 I 2, 0 I 3, 1 A 3, 1 A 4, 3 A 5, 4 A 5
 pub fn w() -> Board
-    ensures { Of W startRights result }
+    ensures { Of W start_rights result }
 {
     let mut i = [0u64; Board::ROLES];
     i[0] = 0b001110;
@@ -56,7 +56,7 @@ pub fn w() -> Board
 
 // 0 I 1, 1 I 2, 2 A 3, 0 A 3
 pub fn l() -> Board
-    ensures { Of L startRights result }
+    ensures { Of L start_rights result }
 {
     let mut i = [0u64; Board::ROLES];
     i[0] = 0b0010;
@@ -69,7 +69,7 @@ pub fn l() -> Board
 
 // 0 I 1
 pub fn e() -> Board
-    ensures { Of E startRights result }
+    ensures { Of E start_rights result }
 {
     let mut i = [0u64; Board::ROLES];
     i[0] = 0b10;
@@ -78,7 +78,7 @@ pub fn e() -> Board
 
 // 0 I 1, 1 A 3, 3 I 4, 0 I 4
 pub fn f() -> Board
-    ensures { Of F startRights result }
+    ensures { Of F start_rights result }
 {
     let mut i = [0u64; Board::ROLES];
     i[0] = 0b10010;
@@ -97,7 +97,7 @@ pub fn add_between(
     a_juniors: u64,
     i_juniors: u64,
 ) -> Command
-    ensures { result ≡ addBetween actor role a_seniors i_seniors a_juniors i_juniors }
+    ensures { result ≡ add_between actor role a_seniors i_seniors a_juniors i_juniors }
 {
     Command {
         code: 1,
@@ -115,7 +115,7 @@ pub fn add_between(
 
 // and under seniors alone.
 pub fn add_role(actor: u32, role: u32, a_seniors: u64, i_seniors: u64) -> Command
-    ensures { result ≡ addRole actor role a_seniors i_seniors }
+    ensures { result ≡ add_role actor role a_seniors i_seniors }
 {
     add_between(actor, role, a_seniors, i_seniors, 0, 0)
 }
@@ -139,37 +139,37 @@ pub fn command(code: u32, actor: u32, role: u32, junior: u32, kind: u32, rights:
 }
 
 pub fn remove_role(actor: u32, role: u32) -> Command
-    ensures { result ≡ removeRole actor role }
+    ensures { result ≡ remove_role actor role }
 {
     command(2, actor, role, 0, 0, 0)
 }
 
 pub fn add_edge(actor: u32, senior: u32, junior: u32, kind: u32) -> Command
-    ensures { result ≡ addEdge actor senior junior kind }
+    ensures { result ≡ add_edge actor senior junior kind }
 {
     command(3, actor, senior, junior, kind, 0)
 }
 
 pub fn remove_edge(actor: u32, senior: u32, junior: u32, kind: u32) -> Command
-    ensures { result ≡ removeEdge actor senior junior kind }
+    ensures { result ≡ remove_edge actor senior junior kind }
 {
     command(4, actor, senior, junior, kind, 0)
 }
 
 pub fn change_edge(actor: u32, senior: u32, junior: u32, kind: u32) -> Command
-    ensures { result ≡ changeEdge actor senior junior kind }
+    ensures { result ≡ change_edge actor senior junior kind }
 {
     command(5, actor, senior, junior, kind, 0)
 }
 
 pub fn give_rights(actor: u32, role: u32, rights: u32) -> Command
-    ensures { result ≡ giveRights actor role rights }
+    ensures { result ≡ give_rights actor role rights }
 {
     command(6, actor, role, 0, 0, rights)
 }
 
 pub fn take_rights(actor: u32, role: u32, rights: u32) -> Command
-    ensures { result ≡ takeRights actor role rights }
+    ensures { result ≡ take_rights actor role rights }
 {
     command(7, actor, role, 0, 0, rights)
 }

@@ -1,6 +1,6 @@
 -- What the reader of a frame promises: document 01's fault, or how many role bytes and edge records there are, and whether rights bytes.
 use Rattle.std.specs.Prelude.{◌≡◌, Bool, cond, not, List, ℕ, ◌+◌, ◌*◌, ◌≤◌, length, drop}
-use Rattle.frames.specs.Frames.{trailer, rightsTrailer, edgesBack, EndsHH, EndsHR, roleCount, edge_count, BadFrame}
+use Rattle.frames.specs.Frames.{trailer, rights_trailer, edges_back, EndsHH, EndsHR, role_count, edge_count, BadFrame}
 use Rattle.frames.specs.declared.Ending.{Ending}
 use Rattle.frames.specs.declared.Ending.TheVariants.{Plain, Rights, Other}
 use Rattle.frames.specs.declared.Framed.{Framed}
@@ -15,16 +15,16 @@ Ended f Rights = EndsHR f
 Ended f Other = (EndsHH f → ⊥) × (EndsHR f → ⊥)
 
 -- what lies behind n role bytes and e bytes of edge records up to the trailer, and the trailer: HH's where `plain`, else HR's
-unfoldable pub bodyLength : Bool → ℕ → ℕ → ℕ
-bodyLength plain n e = cond plain (n + e) (n + e + n)
+unfoldable pub body_length : Bool → ℕ → ℕ → ℕ
+body_length plain n e = cond plain (n + e) (n + e + n)
 
-unfoldable pub trailerOf : Bool → ℕ → ℕ → List ℕ
-trailerOf plain n e = cond plain (trailer e (n + e)) (rightsTrailer n (edgesBack n e) (n + e + n))
+unfoldable pub trailer_of : Bool → ℕ → ℕ → List ℕ
+trailer_of plain n e = cond plain (trailer e (n + e)) (rights_trailer n (edges_back n e) (n + e + n))
 
 -- a file that has n role bytes and e bytes of edge records by its length and its trailer
 pub record Trailed (plain : Bool) (f : List ℕ) (n e : ℕ) : Type 0 where
-  pub long : length f ≡ bodyLength plain n e + length (trailerOf plain n e)
-  pub tail : drop (bodyLength plain n e) f ≡ trailerOf plain n e
+  pub long : length f ≡ body_length plain n e + length (trailer_of plain n e)
+  pub tail : drop (body_length plain n e) f ≡ trailer_of plain n e
 
 -- a frame without fault, with n role bytes and m edge records, and rights bytes or none
 pub record GoodFrame (f : List ℕ) (n m : ℕ) (rights : Bool) : Type 0 where
@@ -39,6 +39,6 @@ Framing f Bad = BadFrame f
 
 -- what the records' readers need of it
 pub record Announced (f : List ℕ) (n m : ℕ) : Type 0 where
-  pub roles : roleCount f ≡ n
+  pub roles : role_count f ≡ n
   pub edges : edge_count f ≡ m
   pub room : n + 3 * m ≤ length f

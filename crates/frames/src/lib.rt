@@ -2,7 +2,7 @@
 // the limits of a board; reads no record.
 ghost use Rattle.std.specs.Prelude.{◌≡◌, ◌+◌, ◌≤◌, length};
 ghost use Rattle.frames.specs.Frames.{word, EndsHH, EndsHR};
-ghost use Rattle.frames.specs.Frames.{edgesBack};
+ghost use Rattle.frames.specs.Frames.{edges_back};
 ghost use Rattle.frames.specs.Framing.{Ended, Framing};
 
 use board::Board;
@@ -90,7 +90,7 @@ fn plain_frame(file: &[u8]) -> Framed
 
 // How far before the trailer the edge records begin that lie before so many rights bytes; 0 where there are none.
 pub fn edges_back(rights: u32, edges: u32) -> usize
-    ensures { result ≡ edgesBack rights edges }
+    ensures { result ≡ edges_back rights edges }
 {
     if edges == 0 {
         return 0;

@@ -6,13 +6,13 @@ use Prim.Native.Nat.{ℕ}
 use Rattle.hierarchy.specs.First.{First}
 
 -- at most one
-pub first-unique : (t : List (ℕ × Type 0)) (m n : ℕ) → First t m → First t n → m ≡ n
+pub first_unique : (t : List (ℕ × Type 0)) (m n : ℕ) → First t m → First t n → m ≡ n
 unfolding First
-first-unique [] m n p q = p ∙ sym q
-first-unique (r ∷ t) m n (inl p) (inl q) = p.1 ∙ sym q.1
-first-unique (r ∷ t) m n (inl p) (inr q) = absurd (q.0 p.0)
-first-unique (r ∷ t) m n (inr p) (inl q) = absurd (p.0 q.0)
-first-unique (r ∷ t) m n (inr p) (inr q) = first-unique t m n p.1 q.1
+first_unique [] m n p q = p ∙ sym q
+first_unique (r ∷ t) m n (inl p) (inl q) = p.1 ∙ sym q.1
+first_unique (r ∷ t) m n (inl p) (inr q) = absurd (q.0 p.0)
+first_unique (r ∷ t) m n (inr p) (inl q) = absurd (p.0 q.0)
+first_unique (r ∷ t) m n (inr p) (inr q) = first_unique t m n p.1 q.1
 
 -- how an answer is shown: past the conditions that fail, to the first that holds, or to the end
 pub pass : (k : ℕ) (P : Type 0) (t : List (ℕ × Type 0)) (n : ℕ) → (P → ⊥) → First t n → First ((k, P) ∷ t) n
@@ -39,9 +39,9 @@ Decided [] = Unit {0}
 Decided (r ∷ t) = Dec r.1 × Decided t
 
 -- and at least one, where each condition is decided
-pub first-exists : (t : List (ℕ × Type 0)) → Decided t → (n : ℕ) × First t n
-first-exists [] d = (0, none)
-first-exists (r ∷ t) d = go (first-exists t d.1) d.0
+pub first_exists : (t : List (ℕ × Type 0)) → Decided t → (n : ℕ) × First t n
+first_exists [] d = (0, none)
+first_exists (r ∷ t) d = go (first_exists t d.1) d.0
   where
     go : (n : ℕ) × First t n → Dec r.1 → (n : ℕ) × First (r ∷ t) n
     go f (yes p) = (r.0, hit r.0 r.1 t p)

@@ -10,16 +10,16 @@ use native.Mathlib.Decide.{ℕ_discrete}
 use native.Mathlib.Omega.{arith}
 use lib.Count.{ones}
 use lib.ListN.{get_or, length, length-set, set, replicate, get_or-eq_default}
-use Rattle.sets.specs.Sets.{bit, ◌isIn◌, ◌areIn◌, same?, LowestRole, NoRole}
-use Rattle.sets.proofs.Bools.{true-or-false, lt-or-ge, or_cases, or_left, or_right, and_left, and_right, and_both, false-no, not_so}
-use Rattle.sets.proofs.Digits.{bit-zero}
-use Rattle.sets.proofs.Laws.{same-eq, same_self, ones-mono}
-use Rattle.sets.proofs.Members.{drawn-part, drawn-less, Taken, taken-part, taken-kept, drawn, drawn-cases}
+use Rattle.sets.specs.Sets.{bit, ◌is_in◌, ◌are_in◌, same?, LowestRole, NoRole}
+use Rattle.sets.proofs.Bools.{true_or_false, lt_or_ge, or_cases, or_left, or_right, and_left, and_right, and_both, false_no, not_so}
+use Rattle.sets.proofs.Digits.{bit_zero}
+use Rattle.sets.proofs.Laws.{same_eq, same_self, ones_mono}
+use Rattle.sets.proofs.Members.{drawn_part, drawn_less, Taken, taken_part, taken_kept, drawn, drawn_cases}
 use Rattle.hierarchy.specs.Tables.{Tables, row}
 use Rattle.hierarchy.specs.Words.{Reaches, Derives, Administrator, Managed}
-use Rattle.hierarchy.specs.Views.{AreViews, RelatedBy, ScopeBy, InTheWayBy, managerAt, AreManagers}
+use Rattle.hierarchy.specs.Views.{AreViews, RelatedBy, ScopeBy, InTheWayBy, manager_at, AreManagers}
 use Rattle.hierarchy.specs.Engine.{Above, AdminsOf, NearestIs, Orderly, Managers}
-use Rattle.hierarchy.proofs.Admin.{reaches-trans, derives-refl, derives-reaches, admin-live, admins-related, no_return}
+use Rattle.hierarchy.proofs.Admin.{reaches_trans, derives_refl, derives_reaches, admin_live, admins_related, no_return}
 use Rattle.hierarchy.proofs.Checks.{and_is, or_is, not_is, same_test}
 use Rattle.hierarchy.proofs.Rows.{entry_of, entry_set, one_entry}
 
@@ -28,80 +28,80 @@ pub no_iff : {P : Type 0} → (P → ⊥) → (false ≡ true) ↔ P
 no_iff n = (λ e. absurd (false≢true e), λ p. absurd (n p))
 
 -- a row past the table has no member
-pub past_row : (t : List ℕ) (x y : ℕ) → length t ≡ 64 → 64 ≤ x → y isIn row t x → ⊥
-past_row t x y l g e = false-no (ap (λ (n : ℕ). bit n y) (get_or-eq_default t 0 (subst (λ (n : ℕ). n ≤ x) (sym l) g)) ∙ bit-zero y) e
+pub past_row : (t : List ℕ) (x y : ℕ) → length t ≡ 64 → 64 ≤ x → y is_in row t x → ⊥
+past_row t x y l g e = false_no (ap (λ (n : ℕ). bit n y) (get_or-eq_default t 0 (subst (λ (n : ℕ). n ≤ x) (sym l) g)) ∙ bit_zero y) e
 
 -- the last test of scope: whatever derives r is above or below a
-pub scope-test : {down up : List ℕ} {a r : ℕ} (near : ℕ) (w : Bool) → r isIn row down a → a isIn row up r
+pub scope_test : {down up : List ℕ} {a r : ℕ} (near : ℕ) (w : Bool) → r is_in row down a → a is_in row up r
     → ((x : ℕ) → bit near x ≡ (bit (row up a) x || bit (row down a) x))
-    → (w ≡ true) ↔ (row up r areIn near)
+    → (w ≡ true) ↔ (row up r are_in near)
     → (w ≡ true) ↔ ScopeBy down up a r
-scope-test {down} {up} {a} {r} near w d u near-is test = (
+scope_test {down} {up} {a} {r} near w d u near-is test = (
   λ e. record { derives = d; derived = u; rivals = λ x m. or_cases (bit (row up a) x) (bit (row down a) x) (sym (near-is x) ∙ test.0 e x m) },
   λ s. test.1 (λ x m. near-is x ∙ ⊎_elim (or_left (bit (row up a) x) (bit (row down a) x)) (or_right (bit (row up a) x) (bit (row down a) x)) (s.rivals x m)),
 )
 
 -- and of what bars r: the lowest that is left of whatever derives r
 module _ {down up : List ℕ} {a r : ℕ} (near rest : ℕ) (near-is : (x : ℕ) → bit near x ≡ (bit (row up a) x || bit (row down a) x))
-    (rest-is : (x : ℕ) → bit rest x ≡ (bit (row up r) x && not (bit near x))) where
-  pub bar-none : r isIn row down a → a isIn row up r → NoRole rest → ScopeBy down up a r
-  bar-none d u empty = (scope-test near true d u near-is (
-    λ _ x m. ⊎_elim (λ e. e) (λ n. absurd (false-no (empty.none x) (rest-is x ∙ and_both (bit (row up r) x) (not (bit near x)) m (ap not n)))) (true-or-false (bit near x)),
+    (rest_is : (x : ℕ) → bit rest x ≡ (bit (row up r) x && not (bit near x))) where
+  pub bar_none : r is_in row down a → a is_in row up r → NoRole rest → ScopeBy down up a r
+  bar_none d u empty = (scope_test near true d u near-is (
+    λ _ x m. ⊎_elim (λ e. e) (λ n. absurd (false_no (empty.none x) (rest_is x ∙ and_both (bit (row up r) x) (not (bit near x)) m (ap not n)))) (true_or_false (bit near x)),
     λ _. refl,
   )).0 refl
 
-  pub bar-way : {x : ℕ} → LowestRole rest x → InTheWayBy down up a r x
-  bar-way {x} l = let w = (left x).0 l.member in record { derives = w.0; unrelated = w.1; lowest = λ y m n. l.least y ((left y).1 (m, n)) }
+  pub bar_way : {x : ℕ} → LowestRole rest x → InTheWayBy down up a r x
+  bar_way {x} l = let w = (left x).0 l.member in record { derives = w.0; unrelated = w.1; lowest = λ y m n. l.least y ((left y).1 (m, n)) }
     where
-      left : (y : ℕ) → (y isIn rest) ↔ ((y isIn row up r) × (RelatedBy down up a y → ⊥))
-      left y = same_test (rest-is y) (and_is Iff.rfl (λ _. not_is (same_test (near-is y) (or_is Iff.rfl Iff.rfl))))
+      left : (y : ℕ) → (y is_in rest) ↔ ((y is_in row up r) × (RelatedBy down up a y → ⊥))
+      left y = same_test (rest_is y) (and_is Iff.rfl (λ _. not_is (same_test (near-is y) (or_is Iff.rfl Iff.rfl))))
 
 -- r goes from s
-gone : (s r s' : ℕ) → r < 64 → ((a : ℕ) → bit s' a ≡ (bit s a && not (same? r a))) → (a : ℕ) → a isIn s' → a ≢ r
-gone s r s' l h a m q = false-no (h a ∙ ap (λ (p : Bool). bit s a && not p) (ap (same? r) q ∙ same_self r l) ∙ and-false (bit s a)) m
+gone : (s r s' : ℕ) → r < 64 → ((a : ℕ) → bit s' a ≡ (bit s a && not (same? r a))) → (a : ℕ) → a is_in s' → a ≢ r
+gone s r s' l h a m q = false_no (h a ∙ ap (λ (p : Bool). bit s a && not p) (ap (same? r) q ∙ same_self r l) ∙ and-false (bit s a)) m
 
-stays : (s r s' : ℕ) → ((a : ℕ) → bit s' a ≡ (bit s a && not (same? r a))) → (a : ℕ) → a isIn s → a ≢ r → a isIn s'
-stays s r s' h a m n = h a ∙ and_both (bit s a) (not (same? r a)) m (ap not (not_so (same? r a) (λ q. n (same-eq r a q))))
+stays : (s r s' : ℕ) → ((a : ℕ) → bit s' a ≡ (bit s a && not (same? r a))) → (a : ℕ) → a is_in s → a ≢ r → a is_in s'
+stays s r s' h a m n = h a ∙ and_both (bit s a) (not (same? r a)) m (ap not (not_so (same? r a) (λ q. n (same_eq r a q))))
 
 -- ---- administrators
 
 module _ (down up : List ℕ) where
   -- of the first set those are left that are above or below all of s that are not in rest
   pub record Narrowed (s first found rest : ℕ) : Type 0 where
-    pub part : rest areIn s
-    pub only : (a : ℕ) → a isIn found → (a isIn first) × ((x : ℕ) → x isIn s → (x isIn rest) ⊎ RelatedBy down up x a)
-    pub every : (a : ℕ) → a isIn first → ((x : ℕ) → x isIn s → RelatedBy down up x a) → a isIn found
+    pub part : rest are_in s
+    pub only : (a : ℕ) → a is_in found → (a is_in first) × ((x : ℕ) → x is_in s → (x is_in rest) ⊎ RelatedBy down up x a)
+    pub every : (a : ℕ) → a is_in first → ((x : ℕ) → x is_in s → RelatedBy down up x a) → a is_in found
 
   pub narrow_start : (s first : ℕ) → Narrowed s first first s
   narrow_start s first = record { part = λ x e. e; only = λ a e. (e, λ x m. inl m); every = λ a e _. e }
 
-  pub narrow-turn : {s first found rest x rest' : ℕ} (near found' : ℕ) → Taken rest x rest' → Narrowed s first found rest
+  pub narrow_turn : {s first found rest x rest' : ℕ} (near found' : ℕ) → Taken rest x rest' → Narrowed s first found rest
       → ((a : ℕ) → bit near a ≡ (bit (row up x) a || bit (row down x) a))
       → ((a : ℕ) → bit found' a ≡ (bit found a && bit near a)) → Narrowed s first found' rest'
-  narrow-turn {found = found} {x = x} near found' turn inv near-is found-is = record {
-    part = λ y e. inv.part y (taken-part turn y e);
+  narrow_turn {found = found} {x = x} near found' turn inv near-is found-is = record {
+    part = λ y e. inv.part y (taken_part turn y e);
     only = λ a e.
         let o = inv.only a (and_left (bit found a) (bit near a) (sym (found-is a) ∙ e)) in
         let n = or_cases (bit (row up x) a) (bit (row down x) a) (sym (near-is a) ∙ and_right (bit found a) (bit near a) (sym (found-is a) ∙ e)) in
-        (o.0, λ y m. ⊎_elim (λ k. ⊎_map (λ z. z) (λ q. subst (λ z. RelatedBy down up z a) (sym q) n) (taken-kept turn y k)) (λ k. inr k) (o.1 y m));
+        (o.0, λ y m. ⊎_elim (λ k. ⊎_map (λ z. z) (λ q. subst (λ z. RelatedBy down up z a) (sym q) n) (taken_kept turn y k)) (λ k. inr k) (o.1 y m));
     every = λ a e f. found-is a ∙ and_both (bit found a) (bit near a) (inv.every a e f)
         (near-is a ∙ ⊎_elim (or_left (bit (row up x) a) (bit (row down x) a)) (or_right (bit (row up x) a) (bit (row down x) a)) (f x (inv.part x turn.lowest.member)));
   }
 
-  pub narrow-end : {r first found rest : ℕ} → r < 64 → ((a : ℕ) → bit first a ≡ (bit (row up r) a && not (same? r a)))
-      → NoRole rest → Narrowed (row up r) first found rest → (a : ℕ) → (a isIn found) ↔ Above down up a r
-  narrow-end {r} {first} l first-is empty inv a = (
+  pub narrow_end : {r first found rest : ℕ} → r < 64 → ((a : ℕ) → bit first a ≡ (bit (row up r) a && not (same? r a)))
+      → NoRole rest → Narrowed (row up r) first found rest → (a : ℕ) → (a is_in found) ↔ Above down up a r
+  narrow_end {r} {first} l first-is empty inv a = (
     λ e. let o = inv.only a e in record {
       derives = and_left (bit (row up r) a) (not (same? r a)) (sym (first-is a) ∙ o.0);
       strict = gone (row up r) r first l first-is a o.0;
-      rivals = λ x m. ⊎_elim (λ k. absurd (false-no (empty.none x) k)) (λ k. k) (o.1 x m);
+      rivals = λ x m. ⊎_elim (λ k. absurd (false_no (empty.none x) k)) (λ k. k) (o.1 x m);
     },
     λ h. inv.every a (stays (row up r) r first first-is a h.derives h.strict) h.rivals,
   )
 
 -- off the views these are the administrators
-pub above-by : {t : Tables} {down up : List ℕ} → AreViews t down up → (a r : ℕ) → Above down up a r ↔ Administrator t a r
-above-by views a r = (
+pub above_by : {t : Tables} {down up : List ℕ} → AreViews t down up → (a r : ℕ) → Above down up a r ↔ Administrator t a r
+above_by views a r = (
   λ h. record {
     scope = record {
       derives = (views.up_is a r).0 h.derives;
@@ -120,113 +120,113 @@ above-by views a r = (
 
 -- m derives all that are left, and what is not left reaches m
 pub record Nearer (t : Tables) (s m left : ℕ) : Type 0 where
-  pub member : m isIn s
-  pub below : (a : ℕ) → a isIn left → Derives t m a × (a ≢ m)
-  pub above : (a : ℕ) → a isIn s → (a isIn left) ⊎ ((a ≡ m) ⊎ Reaches t a m)
+  pub member : m is_in s
+  pub below : (a : ℕ) → a is_in left → Derives t m a × (a ≢ m)
+  pub above : (a : ℕ) → a is_in s → (a is_in left) ⊎ ((a ≡ m) ⊎ Reaches t a m)
 
 pub record Nearing (down : List ℕ) (s found left : ℕ) : Type 0 where
-  pub part : left areIn s
-  pub so_far : (t : Tables) (r : ℕ) → AdminsOf t down s r → ((found ≡ 64) × (s areIn left)) ⊎ Nearer t s found left
+  pub part : left are_in s
+  pub so_far : (t : Tables) (r : ℕ) → AdminsOf t down s r → ((found ≡ 64) × (s are_in left)) ⊎ Nearer t s found left
 
-pub near-start : (down : List ℕ) (s : ℕ) → Nearing down s 64 s
-near-start down s = record { part = λ a e. e; so_far = λ t r h. inl (refl, λ a e. e) }
+pub near_start : (down : List ℕ) (s : ℕ) → Nearing down s 64 s
+near_start down s = record { part = λ a e. e; so_far = λ t r h. inl (refl, λ a e. e) }
 
 -- from what is left it goes to m: of the others those stay that m derives
-module _ {down : List ℕ} {s found left m : ℕ} (others left' : ℕ) (l : m < 64) (e : m isIn left) (inv : Nearing down s found left)
+module _ {down : List ℕ} {s found left m : ℕ} (others left' : ℕ) (l : m < 64) (e : m is_in left) (inv : Nearing down s found left)
     (others-is : (a : ℕ) → bit others a ≡ (bit left a && not (same? m a)))
     (left_is : (a : ℕ) → bit left' a ≡ (bit others a && bit (row down m) a)) where
-  goes_on : left' areIn others
+  goes_on : left' are_in others
   goes_on a k = and_left (bit others a) (bit (row down m) a) (sym (left_is a) ∙ k)
 
-  was-left : others areIn left
-  was-left = drawn-part (record { role = l; member = e; rest-is = others-is })
+  was_left : others are_in left
+  was_left = drawn_part (record { role = l; member = e; rest_is = others-is })
 
   module _ (t : Tables) (r : ℕ) (h : AdminsOf t down s r) where
     -- what was left is still, or is m, or derives m; and the role found before derives m
-    near-left : (a : ℕ) → a isIn left → (a isIn left') ⊎ ((a ≡ m) ⊎ Reaches t a m)
-    near-left a k = dite (ℕ_discrete a m) (λ q. inr (inl q)) (λ n. ⊎_elim
+    near_left : (a : ℕ) → a is_in left → (a is_in left') ⊎ ((a ≡ m) ⊎ Reaches t a m)
+    near_left a k = dite (ℕ_discrete a m) (λ q. inr (inl q)) (λ n. ⊎_elim
         (λ d. inl (left_is a ∙ and_both (bit others a) (bit (row down m) a) (stays left m others others-is a k n) d))
-        (λ d. inr (inr (derives-reaches (⊎_elim
+        (λ d. inr (inr (derives_reaches (⊎_elim
         (λ w. w)
-        (λ w. absurd (false-no d ((h.down_is m a).1 w)))
-        (admins-related ((h.members a).0 (inv.part a k)) ((h.members m).0 (inv.part m e)))) n)))
-        (true-or-false (bit (row down m) a)))
+        (λ w. absurd (false_no d ((h.down_is m a).1 w)))
+        (admins_related ((h.members a).0 (inv.part a k)) ((h.members m).0 (inv.part m e)))) n)))
+        (true_or_false (bit (row down m) a)))
 
-    near-above : (a : ℕ) → a isIn s → (a isIn left') ⊎ ((a ≡ m) ⊎ Reaches t a m)
-    near-above a k = ⊎_elim (λ p. near-left a (p.1 a k)) (λ p.
-        let w = derives-reaches (p.below m e).0 (λ q. (p.below m e).1 (sym q)) in
-        ⊎_elim (near-left a) (λ b. inr (inr (⊎_elim (λ q. subst (λ (x : ℕ). Reaches t x m) (sym q) w) (λ v. reaches-trans v w) b))) (p.above a k))
+    near_above : (a : ℕ) → a is_in s → (a is_in left') ⊎ ((a ≡ m) ⊎ Reaches t a m)
+    near_above a k = ⊎_elim (λ p. near_left a (p.1 a k)) (λ p.
+        let w = derives_reaches (p.below m e).0 (λ q. (p.below m e).1 (sym q)) in
+        ⊎_elim (near_left a) (λ b. inr (inr (⊎_elim (λ q. subst (λ (x : ℕ). Reaches t x m) (sym q) w) (λ v. reaches_trans v w) b))) (p.above a k))
         (inv.so_far t r h)
 
-    near-below : (a : ℕ) → a isIn left' → Derives t m a × (a ≢ m)
-    near-below a k = ((h.down_is m a).0 (and_right (bit others a) (bit (row down m) a) (sym (left_is a) ∙ k)), gone left m others l others-is a (goes_on a k))
+    near_below : (a : ℕ) → a is_in left' → Derives t m a × (a ≢ m)
+    near_below a k = ((h.down_is m a).0 (and_right (bit others a) (bit (row down m) a) (sym (left_is a) ∙ k)), gone left m others l others-is a (goes_on a k))
 
-  pub near-less : ones left' < ones left
-  near-less = le_trans (suc-le-suc (ones-mono left' others goes_on)) (drawn-less (record { role = l; member = e; rest-is = others-is }))
+  pub near_less : ones left' < ones left
+  near_less = le_trans (suc-le-suc (ones_mono left' others goes_on)) (drawn_less (record { role = l; member = e; rest_is = others-is }))
 
-  pub near-turn : Nearing down s m left'
-  near-turn = record {
-    part = λ a k. inv.part a (was-left a (goes_on a k));
-    so_far = λ t r h. inr (record { member = inv.part m e; below = near-below t r h; above = near-above t r h });
+  pub near_turn : Nearing down s m left'
+  near_turn = record {
+    part = λ a k. inv.part a (was_left a (goes_on a k));
+    so_far = λ t r h. inr (record { member = inv.part m e; below = near_below t r h; above = near_above t r h });
   }
 
-pub near-end : {down : List ℕ} {s found left : ℕ} → NoRole left → Nearing down s found left → (t : Tables) (r : ℕ) → AdminsOf t down s r → NearestIs t r found
-near-end {s = s} {found = m} {left = left} empty inv t r h = ⊎_elim
-    (λ p. inr (λ a k. false-no (empty.none a) (p.1 a ((h.members a).1 k)), p.0))
+pub near_end : {down : List ℕ} {s found left : ℕ} → NoRole left → Nearing down s found left → (t : Tables) (r : ℕ) → AdminsOf t down s r → NearestIs t r found
+near_end {s = s} {found = m} {left = left} empty inv t r h = ⊎_elim
+    (λ p. inr (λ a k. false_no (empty.none a) (p.1 a ((h.members a).1 k)), p.0))
     (λ p. inl (record { admin = (h.members m).0 p.member; lowest = λ a k n. lowest p a k n }))
     (inv.so_far t r h)
   where
     -- the other one of the two would be a loop
     under : Nearer t s m left → (a : ℕ) → Administrator t a r → Reaches t a m → Derives t a m
-    under p a k w = ⊎_elim (λ d. d) (λ d. absurd (no_return h.loopless w d)) (admins-related k ((h.members m).0 p.member))
+    under p a k w = ⊎_elim (λ d. d) (λ d. absurd (no_return h.loopless w d)) (admins_related k ((h.members m).0 p.member))
 
     lowest : Nearer t s m left → (a : ℕ) → Administrator t a r → a ≢ m → Derives t a m
-    lowest p a k n = ⊎_elim (λ e. absurd (false-no (empty.none a) e)) (λ b. ⊎_elim (λ q. absurd (n q)) (under p a k) b) (p.above a ((h.members a).1 k))
+    lowest p a k n = ⊎_elim (λ e. absurd (false_no (empty.none a) e)) (λ b. ⊎_elim (λ q. absurd (n q)) (under p a k) b) (p.above a ((h.members a).1 k))
 
 -- ---- the line managers of all
 
 -- those of the roles that are not left stand
 pub record Filling (live : ℕ) (down up manager : List ℕ) (rest : ℕ) : Type 0 where
   pub rows : length manager ≡ 64
-  pub nearest : (t : Tables) → Orderly t live down up → (r : ℕ) → bit rest r ≡ false → NearestIs t r (managerAt manager r)
+  pub nearest : (t : Tables) → Orderly t live down up → (r : ℕ) → bit rest r ≡ false → NearestIs t r (manager_at manager r)
 
 pub fill_start : (live : ℕ) (down up : List ℕ) → Filling live down up (replicate 64 64) live
 fill_start live down up = record {
   rows = refl;
-  nearest = λ t o r n. inr (λ a k. false-no n (subst (λ (s : ℕ). r isIn s) o.live-is k.scope.derives.to), one_entry 64 r 64);
+  nearest = λ t o r n. inr (λ a k. false_no n (subst (λ (s : ℕ). r is_in s) o.live_is k.scope.derives.to), one_entry 64 r 64);
 }
 
-pub fill-turn : {live rest x rest' : ℕ} {down up manager : List ℕ} (s m : ℕ) → Taken rest x rest' → Filling live down up manager rest
-    → ((a : ℕ) → (a isIn s) ↔ Above down up a x) → ((t : Tables) (r : ℕ) → AdminsOf t down s r → NearestIs t r m)
+pub fill_turn : {live rest x rest' : ℕ} {down up manager : List ℕ} (s m : ℕ) → Taken rest x rest' → Filling live down up manager rest
+    → ((a : ℕ) → (a is_in s) ↔ Above down up a x) → ((t : Tables) (r : ℕ) → AdminsOf t down s r → NearestIs t r m)
     → Filling live down up (set manager x m) rest'
-fill-turn {x = x} {manager = manager} s m turn inv s-is m-is = record {
+fill_turn {x = x} {manager = manager} s m turn inv s-is m-is = record {
   rows = length-set manager x m ∙ inv.rows;
   nearest = λ t o r n. entry_set 64 manager x m r (subst (λ (k : ℕ). x < k) (sym inv.rows) turn.lowest.role) (NearestIs t r)
       (λ q. subst (λ (k : ℕ). NearestIs t k m) (sym q) (m-is t x (record {
         loopless = o.loopless;
         down_is = o.views.down_is;
-        members = λ a. Iff.trans (s-is a) (above-by o.views a x);
+        members = λ a. Iff.trans (s-is a) (above_by o.views a x);
       })))
-      (λ q. ⊎_elim (λ k. inv.nearest t o r k) (λ k. absurd (q k)) (drawn-cases (drawn turn) r n));
+      (λ q. ⊎_elim (λ k. inv.nearest t o r k) (λ k. absurd (q k)) (drawn_cases (drawn turn) r n));
 }
 
 pub fill_end : {live rest : ℕ} {down up manager : List ℕ} → NoRole rest → Filling live down up manager rest → (t : Tables) → Orderly t live down up → Managers t manager
 fill_end empty inv t o = record { rows = inv.rows; nearest = λ r. inv.nearest t o r (empty.none r) }
 
 -- a role that has no administrator has no line manager
-pub managers-are : {t : Tables} {manager : List ℕ} → Managers t manager → AreManagers t manager
-managers-are m = record { manager-rows = m.rows; manager-is = λ r. ⊎_map (λ l. l) (λ p. (λ n l. p.0 n l.admin, p.1)) (m.nearest r) }
+pub managers_are : {t : Tables} {manager : List ℕ} → Managers t manager → AreManagers t manager
+managers_are m = record { manager_rows = m.rows; manager_is = λ r. ⊎_map (λ l. l) (λ p. (λ n l. p.0 n l.admin, p.1)) (m.nearest r) }
 
 -- a live role is one that has a row
-live-role : {t : Tables} {down up : List ℕ} → AreViews t down up → (x : ℕ) → x isIn t.live → x < 64
-live-role {up = up} views x l = ⊎_elim (λ k. k) (λ g. absurd (past_row up x x views.up-rows g ((views.up_is x x).1 (derives-refl l)))) (lt-or-ge x 64)
+live_role : {t : Tables} {down up : List ℕ} → AreViews t down up → (x : ℕ) → x is_in t.live → x < 64
+live_role {up = up} views x l = ⊎_elim (λ k. k) (λ g. absurd (past_row up x x views.up_rows g ((views.up_is x x).1 (derives_refl l)))) (lt_or_ge x 64)
 
-pub managed-is : {t : Tables} {down up manager : List ℕ} → AreViews t down up → Managers t manager
-    → ((r : ℕ) → r isIn t.live → r ≢ 0 → managerAt manager r ≢ 64) ↔ Managed t
-managed-is {t} {manager = manager} views m = (
-  λ f r l n. ⊎_elim (λ g. (managerAt manager r, g.admin)) (λ p. absurd (f r l n p.1)) (m.nearest r),
+pub managed_is : {t : Tables} {down up manager : List ℕ} → AreViews t down up → Managers t manager
+    → ((r : ℕ) → r is_in t.live → r ≢ 0 → manager_at manager r ≢ 64) ↔ Managed t
+managed_is {t} {manager = manager} views m = (
+  λ f r l n. ⊎_elim (λ g. (manager_at manager r, g.admin)) (λ p. absurd (f r l n p.1)) (m.nearest r),
   λ f r l n q. ⊎_elim
-      (λ g. let k = live-role views (managerAt manager r) (admin-live g.admin) in absurd (omega arith))
+      (λ g. let k = live_role views (manager_at manager r) (admin_live g.admin) in absurd (omega arith))
       (λ p. p.0 (f r l n).0 (f r l n).1)
       (m.nearest r),
 )
@@ -234,27 +234,27 @@ managed-is {t} {manager = manager} views m = (
 -- ---- each role but 0 passes a test
 
 -- the entry of a role is the one that is read
-pub at-role : (manager : List ℕ) (r : ℕ) → length manager ≡ 64 → r < 64 → managerAt manager r ≡ get_or manager r 0
-at-role manager r e l = entry_of manager r 64 0 (subst (λ (k : ℕ). r < k) (sym e) l)
+pub at_role : (manager : List ℕ) (r : ℕ) → length manager ≡ 64 → r < 64 → manager_at manager r ≡ get_or manager r 0
+at_role manager r e l = entry_of manager r 64 0 (subst (λ (k : ℕ). r < k) (sym e) l)
 
 pub record Passing (P : ℕ → Type 0) (live rest : ℕ) : Type 0 where
-  pub part : (r : ℕ) → r isIn rest → (r isIn live) × (r ≢ 0)
-  pub done : (r : ℕ) → r isIn live → r ≢ 0 → (r isIn rest) ⊎ P r
+  pub part : (r : ℕ) → r is_in rest → (r is_in live) × (r ≢ 0)
+  pub done : (r : ℕ) → r is_in live → r ≢ 0 → (r is_in rest) ⊎ P r
 
-pub pass-start : {P : ℕ → Type 0} {live : ℕ} (rest : ℕ) → ((r : ℕ) → bit rest r ≡ (bit live r && not (same? 0 r))) → Passing P live rest
-pass-start {live = live} rest rest-is = record {
-  part = λ r e. (and_left (bit live r) (not (same? 0 r)) (sym (rest-is r) ∙ e), gone live 0 rest (omega arith) rest-is r e);
-  done = λ r m n. inl (stays live 0 rest rest-is r m n);
+pub pass_start : {P : ℕ → Type 0} {live : ℕ} (rest : ℕ) → ((r : ℕ) → bit rest r ≡ (bit live r && not (same? 0 r))) → Passing P live rest
+pass_start {live = live} rest rest_is = record {
+  part = λ r e. (and_left (bit live r) (not (same? 0 r)) (sym (rest_is r) ∙ e), gone live 0 rest (omega arith) rest_is r e);
+  done = λ r m n. inl (stays live 0 rest rest_is r m n);
 }
 
-pub pass-turn : {P : ℕ → Type 0} {live rest x rest' : ℕ} → Taken rest x rest' → Passing P live rest → P x → Passing P live rest'
-pass-turn {P} turn inv p = record {
-  part = λ r e. inv.part r (taken-part turn r e);
-  done = λ r m n. ⊎_elim (λ e. ⊎_map (λ k. k) (λ q. subst P (sym q) p) (taken-kept turn r e)) (λ d. inr d) (inv.done r m n);
+pub pass_turn : {P : ℕ → Type 0} {live rest x rest' : ℕ} → Taken rest x rest' → Passing P live rest → P x → Passing P live rest'
+pass_turn {P} turn inv p = record {
+  part = λ r e. inv.part r (taken_part turn r e);
+  done = λ r m n. ⊎_elim (λ e. ⊎_map (λ k. k) (λ q. subst P (sym q) p) (taken_kept turn r e)) (λ d. inr d) (inv.done r m n);
 }
 
-pub pass-end : {P : ℕ → Type 0} {live rest : ℕ} → NoRole rest → Passing P live rest → (true ≡ true) ↔ ((r : ℕ) → r isIn live → r ≢ 0 → P r)
-pass-end empty inv = (λ _ r m n. ⊎_elim (λ e. absurd (false-no (empty.none r) e)) (λ d. d) (inv.done r m n), λ _. refl)
+pub pass_end : {P : ℕ → Type 0} {live rest : ℕ} → NoRole rest → Passing P live rest → (true ≡ true) ↔ ((r : ℕ) → r is_in live → r ≢ 0 → P r)
+pass_end empty inv = (λ _ r m n. ⊎_elim (λ e. absurd (false_no (empty.none r) e)) (λ d. d) (inv.done r m n), λ _. refl)
 
-pub pass-not : {P : ℕ → Type 0} {live rest x : ℕ} → x isIn rest → Passing P live rest → (P x → ⊥) → (false ≡ true) ↔ ((r : ℕ) → r isIn live → r ≢ 0 → P r)
-pass-not {x = x} m inv n = no_iff (λ all. let p = inv.part x m in n (all x p.0 p.1))
+pub pass_not : {P : ℕ → Type 0} {live rest x : ℕ} → x is_in rest → Passing P live rest → (P x → ⊥) → (false ≡ true) ↔ ((r : ℕ) → r is_in live → r ≢ 0 → P r)
+pass_not {x = x} m inv n = no_iff (λ all. let p = inv.part x m in n (all x p.0 p.1))

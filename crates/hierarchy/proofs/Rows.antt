@@ -7,11 +7,11 @@ use Prim.Native.Nat.{ℕ, zero, suc, ◌<◌}
 use native.Mathlib.Decide.{ℕ_discrete}
 use lib.ListN.{get_or, set, length, length-set, replicate}
 use lib.Seq.{get_or-set_same, get_or-set_other, set-get_or}
-use Rattle.sets.specs.Sets.{bit, ◌isIn◌, ◌areIn◌, same?, NoRole}
+use Rattle.sets.specs.Sets.{bit, ◌is_in◌, ◌are_in◌, same?, NoRole}
 use Rattle.sets.proofs.Bools.{and_left, and_right, and_both, not_so}
-use Rattle.sets.proofs.Digits.{bit-zero}
-use Rattle.sets.proofs.Laws.{same-eq, same_self}
-use Rattle.sets.proofs.Members.{Taken, taken-part}
+use Rattle.sets.proofs.Digits.{bit_zero}
+use Rattle.sets.proofs.Laws.{same_eq, same_self}
+use Rattle.sets.proofs.Members.{Taken, taken_part}
 use Rattle.hierarchy.specs.Tables.{row}
 use Rattle.hierarchy.specs.Views.{Turned}
 use Rattle.hierarchy.specs.Engine.{Marked}
@@ -23,8 +23,8 @@ one_entry (suc n) zero d = refl
 one_entry (suc n) (suc x) d = one_entry n x d
 
 -- a row of the blank table has no member
-pub blank-row : (n x : ℕ) → row (replicate n 0) x ≡ 0
-blank-row n x = one_entry n x 0
+pub blank_row : (n x : ℕ) → row (replicate n 0) x ≡ 0
+blank_row n x = one_entry n x 0
 
 -- within the list it is all one what stands for an entry past it
 pub entry_of : (l : List ℕ) (i d e : ℕ) → i < length l → get_or l i d ≡ get_or l i e
@@ -36,40 +36,40 @@ entry_set d t x v y l P same other = dite (ℕ_discrete y x)
     (λ e. subst P (sym (ap (λ (k : ℕ). get_or (set t x v) k d) e ∙ get_or-set_same t x v d l)) (same e))
     (λ n. subst P (sym (get_or-set_other t x y v d n)) (other n))
 
-pub row-set : (t : List ℕ) (x v y : ℕ) → x < length t → (P : ℕ → Type 0) → (y ≡ x → P v) → (y ≢ x → P (row t y)) → P (row (set t x v) y)
-row-set = entry_set 0
+pub row_set : (t : List ℕ) (x v y : ℕ) → x < length t → (P : ℕ → Type 0) → (y ≡ x → P v) → (y ≢ x → P (row t y)) → P (row (set t x v) y)
+row_set = entry_set 0
 
 -- ---- a role goes into many rows
 
 -- the rows of roles not left to do have x
 pub record Marking (up : List ℕ) (s x : ℕ) (marked : List ℕ) (rest : ℕ) : Type 0 where
   pub rows : length marked ≡ 64
-  pub part : rest areIn s
+  pub part : rest are_in s
   pub members : (y z : ℕ) → bit (row marked y) z ≡ (bit (row up y) z || ((bit s y && not (bit rest y)) && same? x z))
 
-pub marking-start : (up : List ℕ) (s x : ℕ) → length up ≡ 64 → Marking up s x up s
-marking-start up s x l = record {
+pub marking_start : (up : List ℕ) (s x : ℕ) → length up ≡ 64 → Marking up s x up s
+marking_start up s x l = record {
   rows = l;
   part = λ y e. e;
   members = λ y z. sym (ap (λ (p : Bool). bit (row up y) z || (p && same? x z)) (and-not_self (bit s y)) ∙ or-false (bit (row up y) z));
 }
 
-pub marking-turn : {up marked : List ℕ} {s x rest y rest' : ℕ} (v : ℕ) → Taken rest y rest' → Marking up s x marked rest
+pub marking_turn : {up marked : List ℕ} {s x rest y rest' : ℕ} (v : ℕ) → Taken rest y rest' → Marking up s x marked rest
     → ((z : ℕ) → bit v z ≡ (bit (row marked y) z || same? x z)) → Marking up s x (set marked y v) rest'
-marking-turn {up} {marked} {s} {x} {rest} {y} {rest'} v turn inv h = record {
+marking_turn {up} {marked} {s} {x} {rest} {y} {rest'} v turn inv h = record {
   rows = length-set marked y v ∙ inv.rows;
-  part = λ w e. inv.part w (taken-part turn w e);
-  members = λ w z. row-set marked y v w (subst (λ (n : ℕ). y < n) (sym inv.rows) turn.lowest.role)
+  part = λ w e. inv.part w (taken_part turn w e);
+  members = λ w z. row_set marked y v w (subst (λ (n : ℕ). y < n) (sym inv.rows) turn.lowest.role)
       (λ r. bit r z ≡ (bit (row up w) z || ((bit s w && not (bit rest' w)) && same? x z)))
       (λ e. subst (λ (k : ℕ). bit v z ≡ (bit (row up k) z || ((bit s k && not (bit rest' k)) && same? x z))) (sym e) (here z))
       (λ n. inv.members w z ∙ ap (λ (p : Bool). bit (row up w) z || ((bit s w && not p) && same? x z)) (sym (left w n)));
 }
   where
     gone : bit rest' y ≡ false
-    gone = turn.rest-is y ∙ ap (λ (p : Bool). bit rest y && not p) (same_self y turn.lowest.role) ∙ and-false (bit rest y)
+    gone = turn.rest_is y ∙ ap (λ (p : Bool). bit rest y && not p) (same_self y turn.lowest.role) ∙ and-false (bit rest y)
 
     left : (w : ℕ) → w ≢ y → bit rest' w ≡ bit rest w
-    left w n = turn.rest-is w ∙ ap (λ (p : Bool). bit rest w && not p) (not_so (same? y w) (λ e. n (same-eq y w e))) ∙ and-true (bit rest w)
+    left w n = turn.rest_is w ∙ ap (λ (p : Bool). bit rest w && not p) (not_so (same? y w) (λ e. n (same_eq y w e))) ∙ and-true (bit rest w)
 
     absorb : (u p : Bool) → ((u || (false && p)) || p) ≡ (u || (true && p))
     absorb true p = refl
@@ -83,8 +83,8 @@ marking-turn {up} {marked} {s} {x} {rest} {y} {rest'} v turn inv h = record {
         ∙ absorb (bit (row up y) z) (same? x z)
         ∙ sym (ap (λ (q : Bool). bit (row up y) z || (q && same? x z)) (ap₂ (λ (p q : Bool). p && not q) (inv.part y turn.lowest.member) gone))
 
-pub marking-end : {up marked : List ℕ} {s x rest : ℕ} → NoRole rest → Marking up s x marked rest → Marked up s x marked
-marking-end {up} {marked} {s} {x} empty inv = record {
+pub marking_end : {up marked : List ℕ} {s x rest : ℕ} → NoRole rest → Marking up s x marked rest → Marked up s x marked
+marking_end {up} {marked} {s} {x} empty inv = record {
   rows = inv.rows;
   members = λ y z. inv.members y z ∙ ap (λ (p : Bool). bit (row up y) z || (p && same? x z)) (ap (λ (q : Bool). bit s y && not q) (empty.none y) ∙ and-true (bit s y));
 }
@@ -93,21 +93,21 @@ marking-end {up} {marked} {s} {x} empty inv = record {
 
 pub record Turning (live : ℕ) (down up : List ℕ) (rest : ℕ) : Type 0 where
   pub rows : length up ≡ 64
-  pub part : rest areIn live
+  pub part : rest are_in live
   pub members : (x y : ℕ) → bit (row up y) x ≡ ((bit live x && not (bit rest x)) && bit (row down x) y)
 
-pub turning-start : (live : ℕ) (down : List ℕ) → Turning live down (replicate 64 0) live
-turning-start live down = record {
+pub turning_start : (live : ℕ) (down : List ℕ) → Turning live down (replicate 64 0) live
+turning_start live down = record {
   rows = refl;
   part = λ x e. e;
-  members = λ x y. ap (λ (r : ℕ). bit r x) (blank-row 64 y) ∙ bit-zero x ∙ sym (ap (λ (p : Bool). p && bit (row down x) y) (and-not_self (bit live x)));
+  members = λ x y. ap (λ (r : ℕ). bit r x) (blank_row 64 y) ∙ bit_zero x ∙ sym (ap (λ (p : Bool). p && bit (row down x) y) (and-not_self (bit live x)));
 }
 
-pub turning-turn : {live rest x rest' : ℕ} {down up up' : List ℕ} → Taken rest x rest' → Turning live down up rest
+pub turning_turn : {live rest x rest' : ℕ} {down up up' : List ℕ} → Taken rest x rest' → Turning live down up rest
     → Marked up (row down x) x up' → Turning live down up' rest'
-turning-turn {live} {rest} {x} {rest'} {down} {up} {up'} turn inv mark = record {
+turning_turn {live} {rest} {x} {rest'} {down} {up} {up'} turn inv mark = record {
   rows = mark.rows;
-  part = λ y e. inv.part y (taken-part turn y e);
+  part = λ y e. inv.part y (taken_part turn y e);
   members = λ z y. mark.members y z ∙ ap (λ (p : Bool). p || (bit (row down x) y && same? x z)) (inv.members z y) ∙ go z y (same? x z) refl;
 }
   where
@@ -118,24 +118,24 @@ turning-turn {live} {rest} {x} {rest'} {down} {up} {up'} turn inv mark = record 
         → (((bit live z && not (bit rest z)) && bit (row down z) y) || (bit (row down x) y && p)) ≡ ((bit live z && not (bit rest' z)) && bit (row down z) y)
     go z y false e =
         drop (bit live z) (bit rest z) (bit (row down z) y) (bit (row down x) y)
-        ∙ ap (λ (p : Bool). (bit live z && not p) && bit (row down z) y) (sym (turn.rest-is z ∙ ap (λ (q : Bool). bit rest z && not q) e))
+        ∙ ap (λ (p : Bool). (bit live z && not p) && bit (row down z) y) (sym (turn.rest_is z ∙ ap (λ (q : Bool). bit rest z && not q) e))
     go z y true e =
-        let z-is : z ≡ x = same-eq x z e in
-        let in_rest : z isIn rest = subst (λ (n : ℕ). n isIn rest) (sym z-is) turn.lowest.member in
+        let z-is : z ≡ x = same_eq x z e in
+        let in_rest : z is_in rest = subst (λ (n : ℕ). n is_in rest) (sym z-is) turn.lowest.member in
         ap (λ (p : Bool). ((bit live z && not p) && bit (row down z) y) || (bit (row down x) y && true)) in_rest
         ∙ ap (λ (p : Bool). (p && bit (row down z) y) || (bit (row down x) y && true)) (and-false (bit live z))
         ∙ and-true (bit (row down x) y)
         ∙ ap (λ (k : ℕ). bit (row down k) y) (sym z-is)
         ∙ sym (ap (λ (p : Bool). (p && not (bit rest' z)) && bit (row down z) y) (inv.part z in_rest)
-        ∙ ap (λ (p : Bool). not p && bit (row down z) y) (turn.rest-is z ∙ ap (λ (q : Bool). bit rest z && not q) e ∙ and-false (bit rest z)))
+        ∙ ap (λ (p : Bool). not p && bit (row down z) y) (turn.rest_is z ∙ ap (λ (q : Bool). bit rest z && not q) e ∙ and-false (bit rest z)))
 
-pub turning-end : {live rest : ℕ} {down up : List ℕ} → NoRole rest → Turning live down up rest → Turned live down up
-turning-end {live} {rest} {down} {up} empty inv = record {
+pub turning_end : {live rest : ℕ} {down up : List ℕ} → NoRole rest → Turning live down up rest → Turned live down up
+turning_end {live} {rest} {down} {up} empty inv = record {
   up_is = λ x y. (
     λ e. let p = sym (members x y) ∙ e in (and_left (bit live x) (bit (row down x) y) p, and_right (bit live x) (bit (row down x) y) p),
     λ m. members x y ∙ and_both (bit live x) (bit (row down x) y) m.0 m.1,
   );
-  up-rows = inv.rows;
+  up_rows = inv.rows;
 }
   where
     members : (x y : ℕ) → bit (row up y) x ≡ (bit live x && bit (row down x) y)

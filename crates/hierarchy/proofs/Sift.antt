@@ -3,41 +3,41 @@ use mathlib.Core.Path.{◌≡◌, sym, ap, ◌∙◌, subst}
 use mathlib.Core.Bool.{◌||◌}
 use mathlib.Core.Logic.{◌⊎◌, inl, inr, ⊎_elim, ◌↔◌}
 use Prim.Native.Nat.{ℕ}
-use Rattle.sets.specs.Sets.{bit, ◌isIn◌, ◌areIn◌, same?, NoRole}
-use Rattle.sets.proofs.Bools.{or_cases, or_left, or_right, false-no}
-use Rattle.sets.proofs.Digits.{bit-zero}
-use Rattle.sets.proofs.Laws.{same-eq, same_self}
-use Rattle.sets.proofs.Members.{Taken, taken-part, taken-kept}
+use Rattle.sets.specs.Sets.{bit, ◌is_in◌, ◌are_in◌, same?, NoRole}
+use Rattle.sets.proofs.Bools.{or_cases, or_left, or_right, false_no}
+use Rattle.sets.proofs.Digits.{bit_zero}
+use Rattle.sets.proofs.Laws.{same_eq, same_self}
+use Rattle.sets.proofs.Members.{Taken, taken_part, taken_kept}
 
 pub record Sifted (P : ℕ → Type 0) (s found rest : ℕ) : Type 0 where
-  pub part : rest areIn s
-  pub only : (x : ℕ) → x isIn found → (x isIn s) × P x
-  pub every : (x : ℕ) → x isIn s → P x → (x isIn rest) ⊎ (x isIn found)
+  pub part : rest are_in s
+  pub only : (x : ℕ) → x is_in found → (x is_in s) × P x
+  pub every : (x : ℕ) → x is_in s → P x → (x is_in rest) ⊎ (x is_in found)
 
-pub sift-start : (P : ℕ → Type 0) (s : ℕ) → Sifted P s 0 s
-sift-start P s = record { part = λ x e. e; only = λ x e. absurd (false-no (bit-zero x) e); every = λ x e p. inl e }
+pub sift_start : (P : ℕ → Type 0) (s : ℕ) → Sifted P s 0 s
+sift_start P s = record { part = λ x e. e; only = λ x e. absurd (false_no (bit_zero x) e); every = λ x e p. inl e }
 
 module _ {P : ℕ → Type 0} {s found rest x rest' : ℕ} (turn : Taken rest x rest') (inv : Sifted P s found rest) where
   -- x passes, and is kept
-  pub sift-in : (found' : ℕ) {found'' : ℕ} → P x → ((y : ℕ) → bit found' y ≡ (bit found y || same? x y)) → found'' ≡ found' → Sifted P s found'' rest'
-  sift-in found' p h q = subst (λ (f : ℕ). Sifted P s f rest') (sym q) (record {
-    part = λ y e. inv.part y (taken-part turn y e);
+  pub sift_in : (found' : ℕ) {found'' : ℕ} → P x → ((y : ℕ) → bit found' y ≡ (bit found y || same? x y)) → found'' ≡ found' → Sifted P s found'' rest'
+  sift_in found' p h q = subst (λ (f : ℕ). Sifted P s f rest') (sym q) (record {
+    part = λ y e. inv.part y (taken_part turn y e);
     only = λ y e. ⊎_elim (λ f. inv.only y f)
-        (λ q. subst (λ (n : ℕ). (n isIn s) × P n) (sym (same-eq x y q)) (inv.part x turn.lowest.member, p))
+        (λ q. subst (λ (n : ℕ). (n is_in s) × P n) (sym (same_eq x y q)) (inv.part x turn.lowest.member, p))
         (or_cases (bit found y) (same? x y) (sym (h y) ∙ e));
     every = λ y e q. ⊎_elim
-        (λ r. ⊎_elim (λ k. inl k) (λ k. inr (h y ∙ or_right (bit found y) (same? x y) (ap (same? x) k ∙ same_self x turn.lowest.role))) (taken-kept turn y r))
+        (λ r. ⊎_elim (λ k. inl k) (λ k. inr (h y ∙ or_right (bit found y) (same? x y) (ap (same? x) k ∙ same_self x turn.lowest.role))) (taken_kept turn y r))
         (λ f. inr (h y ∙ or_left (bit found y) (same? x y) f))
         (inv.every y e q);
   })
 
   -- x does not pass
-  pub sift-out : {found'' : ℕ} → (P x → ⊥) → found'' ≡ found → Sifted P s found'' rest'
-  sift-out n q = subst (λ (f : ℕ). Sifted P s f rest') (sym q) (record {
-    part = λ y e. inv.part y (taken-part turn y e);
+  pub sift_out : {found'' : ℕ} → (P x → ⊥) → found'' ≡ found → Sifted P s found'' rest'
+  sift_out n q = subst (λ (f : ℕ). Sifted P s f rest') (sym q) (record {
+    part = λ y e. inv.part y (taken_part turn y e);
     only = inv.only;
-    every = λ y e q. ⊎_elim (λ r. ⊎_elim (λ k. inl k) (λ k. absurd (n (subst P k q))) (taken-kept turn y r)) (λ f. inr f) (inv.every y e q);
+    every = λ y e q. ⊎_elim (λ r. ⊎_elim (λ k. inl k) (λ k. absurd (n (subst P k q))) (taken_kept turn y r)) (λ f. inr f) (inv.every y e q);
   })
 
-pub sift-end : {P : ℕ → Type 0} {s found rest : ℕ} → NoRole rest → Sifted P s found rest → (x : ℕ) → (x isIn found) ↔ ((x isIn s) × P x)
-sift-end empty inv x = (inv.only x, λ q. ⊎_elim (λ r. absurd (false-no (empty.none x) r)) (λ f. f) (inv.every x q.0 q.1))
+pub sift_end : {P : ℕ → Type 0} {s found rest : ℕ} → NoRole rest → Sifted P s found rest → (x : ℕ) → (x is_in found) ↔ ((x is_in s) × P x)
+sift_end empty inv x = (inv.only x, λ q. ⊎_elim (λ r. absurd (false_no (empty.none x) r)) (λ f. f) (inv.every x q.0 q.1))

@@ -44,11 +44,11 @@ scope? t a r = derives? t a r && all 64 (λ x. not (derives? t x r) || related? 
 abbrev pub unrelated? : Tables → ℕ → ℕ → ℕ → Bool
 unrelated? t a r x = derives? t x r && not (related? t a x)
 
-unfoldable pub inTheWay? : Tables → ℕ → ℕ → ℕ → Bool
-inTheWay? t a r x = unrelated? t a r x && all 64 (λ y. not (unrelated? t a r y) || leb x y)
+unfoldable pub in_the_way? : Tables → ℕ → ℕ → ℕ → Bool
+in_the_way? t a r x = unrelated? t a r x && all 64 (λ y. not (unrelated? t a r y) || leb x y)
 
-unfoldable pub outOfScope? : Tables → ℕ → ℕ → ℕ → ℕ → Bool
-outOfScope? t a r cause way = (eqb cause 1 && (eqb way 0 && not (derives? t a r))) || (eqb cause 2 && (derives? t a r && inTheWay? t a r way))
+unfoldable pub out_of_scope? : Tables → ℕ → ℕ → ℕ → ℕ → Bool
+out_of_scope? t a r cause way = (eqb cause 1 && (eqb way 0 && not (derives? t a r))) || (eqb cause 2 && (derives? t a r && in_the_way? t a r way))
 
 unfoldable pub admin? : Tables → ℕ → ℕ → Bool
 admin? t a r = scope? t a r && not (eqb a r)

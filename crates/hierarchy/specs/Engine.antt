@@ -1,19 +1,19 @@
 -- What the steps of the engine behind the views and the line managers promise each other. No promise of a public function speaks of these.
 use Rattle.std.specs.Prelude.{◌≡◌, ◌⊎◌, ◌↔◌, ◌≢◌, Bool, true, false, ◌&&◌, ◌||◌, List, ℕ, ◌<◌, length}
-use Rattle.sets.specs.Sets.{bit, ◌isIn◌, ◌areIn◌, same?}
+use Rattle.sets.specs.Sets.{bit, ◌is_in◌, ◌are_in◌, same?}
 use Rattle.hierarchy.specs.Tables.{Tables, tables, row}
 use Rattle.hierarchy.specs.Words.{Chain, Derives, Administrator, LineManager}
-use Rattle.hierarchy.specs.Views.{AreViews, InOrder, LiveLoops, managerAt}
+use Rattle.hierarchy.specs.Views.{AreViews, InOrder, LiveLoops, manager_at}
 
 -- an entry of either table
 abbrev pub Entry : List ℕ → List ℕ → ℕ → ℕ → Type 0
-Entry i a x y = (y isIn row i x) ⊎ (y isIn row a x)
+Entry i a x y = (y is_in row i x) ⊎ (y is_in row a x)
 
 -- z is in the row of a role of s
 pub record InRows (table : List ℕ) (s z : ℕ) : Type 0 where
   pub of : ℕ
-  pub member : of isIn s
-  pub on : z isIn row table of
+  pub member : of is_in s
+  pub on : z is_in row table of
 
 -- through the table x leads to a role that has z as its own
 pub record Spread (table : List ℕ) (Own : ℕ → ℕ → Type 0) (x z : ℕ) : Type 0 where
@@ -29,13 +29,13 @@ ByI i = Spread i (λ x z. x ≡ z)
 pub record RowSettled (table old : List ℕ) (x own r : ℕ) (reach : List ℕ) : Type 0 where
   pub rows : length reach ≡ 64
   pub is : row reach x ≡ r
-  pub here : (z : ℕ) → (z isIn r) ↔ ((z isIn own) ⊎ InRows old (row table x) z)
+  pub here : (z : ℕ) → (z is_in r) ↔ ((z is_in own) ⊎ InRows old (row table x) z)
   pub others : (y : ℕ) → (y ≡ x → ⊥) → row reach y ≡ row old y
 
 -- the rows of the roles that are done are right, the others blank
 pub record RightRows (table : List ℕ) (Own : ℕ → ℕ → Type 0) (reach : List ℕ) (done : ℕ) : Type 0 where
   pub rows : length reach ≡ 64
-  pub right : (x : ℕ) → x isIn done → (z : ℕ) → (z isIn row reach x) ↔ Spread table Own x z
+  pub right : (x : ℕ) → x is_in done → (z : ℕ) → (z is_in row reach x) ↔ Spread table Own x z
   pub blank : (x : ℕ) → bit done x ≡ false → row reach x ≡ 0
 
 -- no way down from x goes on for ever
@@ -43,51 +43,51 @@ pub data Founded (i a : List ℕ) : ℕ → Type 0 where
   founded : {x : ℕ} → ((y : ℕ) → Entry i a x y → Founded i a y) → Founded i a x
 
 -- both tables are right so far; juniors of roles that are done are done, and no way down from these goes on for ever
-pub record Right (i a by-i down : List ℕ) (done : ℕ) : Type 0 where
-  pub i-rows : RightRows i (λ x z. x ≡ z) by-i done
-  pub a-rows : RightRows a (ByI i) down done
-  pub closed : (x y : ℕ) → x isIn done → Entry i a x y → y isIn done
-  pub ends : (x : ℕ) → x isIn done → Founded i a x
+pub record Right (i a by_i down : List ℕ) (done : ℕ) : Type 0 where
+  pub i_rows : RightRows i (λ x z. x ≡ z) by_i done
+  pub a_rows : RightRows a (ByI i) down done
+  pub closed : (x y : ℕ) → x is_in done → Entry i a x y → y is_in done
+  pub ends : (x : ℕ) → x is_in done → Founded i a x
 
 -- x can be settled: its juniors are done
-pub record Ready (i a by-i down : List ℕ) (done x : ℕ) : Type 0 where
-  pub right : Right i a by-i down done
+pub record Ready (i a by_i down : List ℕ) (done x : ℕ) : Type 0 where
+  pub right : Right i a by_i down done
   pub role : x < 64
-  pub below : (y : ℕ) → Entry i a x y → y isIn done
+  pub below : (y : ℕ) → Entry i a x y → y is_in done
 
 -- x is done too, and rightly
-pub record Finished (i a by-i down : List ℕ) (done x r : ℕ) : Type 0 where
-  pub right : Right i a by-i down r
-  pub done-is : (y : ℕ) → bit r y ≡ (bit done y || same? x y)
+pub record Finished (i a by_i down : List ℕ) (done x r : ℕ) : Type 0 where
+  pub right : Right i a by_i down r
+  pub done_is : (y : ℕ) → bit r y ≡ (bit done y || same? x y)
 
 -- of the live roles these are done, and rightly; and there is room for a path
-pub record SoFar (live : ℕ) (i a by-i down path : List ℕ) (done : ℕ) : Type 0 where
-  pub right : Right i a by-i down done
-  pub part : done areIn live
+pub record SoFar (live : ℕ) (i a by_i down path : List ℕ) (done : ℕ) : Type 0 where
+  pub right : Right i a by_i down done
+  pub part : done are_in live
   pub places : length path ≡ 64
 
 -- a walk down from root can start
-pub record Starts (live : ℕ) (i a by-i down path : List ℕ) (done root : ℕ) : Type 0 where
-  pub so_far : SoFar live i a by-i down path done
-  pub alive : root isIn live
+pub record Starts (live : ℕ) (i a by_i down path : List ℕ) (done root : ℕ) : Type 0 where
+  pub so_far : SoFar live i a by_i down path done
+  pub alive : root is_in live
   pub fresh : bit done root ≡ false
 
 -- more are done than were; the root is, unless there is no order
-pub record Descended (live : ℕ) (i a by-i down path : List ℕ) (done root r : ℕ) : Type 0 where
-  pub so_far : SoFar live i a by-i down path r
-  pub more : done areIn r
+pub record Descended (live : ℕ) (i a by_i down path : List ℕ) (done root r : ℕ) : Type 0 where
+  pub so_far : SoFar live i a by_i down path r
+  pub more : done are_in r
   pub stuck : bit r root ≡ false → InOrder (tables live i a) → ⊥
 
 -- all live roles are done, or there is no order
-pub record Ordered (live : ℕ) (i a by-i down : List ℕ) (r : Bool) : Type 0 where
-  pub right : r ≡ true → Right i a by-i down live
+pub record Ordered (live : ℕ) (i a by_i down : List ℕ) (r : Bool) : Type 0 where
+  pub right : r ≡ true → Right i a by_i down live
   pub stuck : r ≡ false → InOrder (tables live i a) → ⊥
 
 -- r is whether the live roles are in order; down is then what they derive
 pub record FilledDown (t : Tables) (r : Bool) (down : List ℕ) : Type 0 where
   pub order : (r ≡ true) ↔ InOrder t
-  pub down-rows : r ≡ true → length down ≡ 64
-  pub down_is : r ≡ true → (x y : ℕ) → (y isIn row down x) ↔ Derives t x y
+  pub down_rows : r ≡ true → length down ≡ 64
+  pub down_is : r ≡ true → (x y : ℕ) → (y is_in row down x) ↔ Derives t x y
 
 -- x has gone into the row of each role of s
 pub record Marked (up : List ℕ) (s x : ℕ) (marked : List ℕ) : Type 0 where
@@ -98,15 +98,15 @@ pub record Marked (up : List ℕ) (s x : ℕ) (marked : List ℕ) : Type 0 where
 
 -- a is an administrator of r, asked of whatever derives r: a is above it or below it
 pub record Above (down up : List ℕ) (a r : ℕ) : Type 0 where
-  pub derives : a isIn row up r
+  pub derives : a is_in row up r
   pub strict : a ≢ r
-  pub rivals : (x : ℕ) → x isIn row up r → (a isIn row up x) ⊎ (a isIn row down x)
+  pub rivals : (x : ℕ) → x is_in row up r → (a is_in row up x) ⊎ (a is_in row down x)
 
 -- down is what the roles of t derive, without a loop, and s the set of the administrators of r
 pub record AdminsOf (t : Tables) (down : List ℕ) (s r : ℕ) : Type 0 where
   pub loopless : LiveLoops t → ⊥
-  pub down_is : (x y : ℕ) → (y isIn row down x) ↔ Derives t x y
-  pub members : (a : ℕ) → (a isIn s) ↔ Administrator t a r
+  pub down_is : (x y : ℕ) → (y is_in row down x) ↔ Derives t x y
+  pub members : (a : ℕ) → (a is_in s) ↔ Administrator t a r
 
 -- m is the line manager of r, or 64 where r has no administrator
 abbrev pub NearestIs : Tables → ℕ → ℕ → Type 0
@@ -114,11 +114,11 @@ NearestIs t r m = LineManager t m r ⊎ (((a : ℕ) → Administrator t a r → 
 
 -- the live roles of t are those of live, without a loop, and down and up its views
 pub record Orderly (t : Tables) (live : ℕ) (down up : List ℕ) : Type 0 where
-  pub live-is : t.live ≡ live
+  pub live_is : t.live ≡ live
   pub loopless : LiveLoops t → ⊥
   pub views : AreViews t down up
 
 -- manager has each role's nearest administrator
 pub record Managers (t : Tables) (manager : List ℕ) : Type 0 where
   pub rows : length manager ≡ 64
-  pub nearest : (r : ℕ) → NearestIs t r (managerAt manager r)
+  pub nearest : (r : ℕ) → NearestIs t r (manager_at manager r)

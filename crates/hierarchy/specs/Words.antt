@@ -1,6 +1,6 @@
 -- The words of document 01, parts "Roles, edges, paths" and "Scope and line manager", each as one definition, and the words of request 3.
 use Rattle.std.specs.Prelude.{◌≡◌, ◌≢◌, ◌⊎◌, List, [], ◌∷◌, ℕ, suc, ◌≤◌}
-use Rattle.sets.specs.Sets.{◌isIn◌}
+use Rattle.sets.specs.Sets.{◌is_in◌}
 use Rattle.hierarchy.specs.Tables.{Tables, row, Live, Shaped, kind, join}
 
 -- ---- paths
@@ -23,14 +23,14 @@ pub record Derives (t : Tables) (x y : ℕ) : Type 0 where
 -- going down through one table only, by no step or more
 pub data Chain (rows : List ℕ) : ℕ → ℕ → Type 0 where
   stop : {x : ℕ} → Chain rows x x
-  step : {x y z : ℕ} → y isIn row rows x → Chain rows y z → Chain rows x z
+  step : {x y z : ℕ} → y is_in row rows x → Chain rows y z → Chain rows x z
 
 -- The other wording of deriving: by A alone down to a live role, and from there by I alone
 pub record Splits (t : Tables) (x y : ℕ) : Type 0 where
   pub mid : ℕ
-  pub mid-live : Live t mid
-  pub down-a : Chain t.a x mid
-  pub down-i : Chain t.i mid y
+  pub mid_live : Live t mid
+  pub down_a : Chain t.a x mid
+  pub down_i : Chain t.i mid y
 
 -- ---- scopes
 
@@ -57,8 +57,8 @@ pub record InTheWay (t : Tables) (a r x : ℕ) : Type 0 where
 -- request 3, why r is not in the scope of a, by its cause and the role in the way: 1, a doesn't derive r; 2, it does, and a role is in the
 -- way, which may be role 0. Beside cause 1 there is none, and 0 stands for it.
 pub data OutOfScope (t : Tables) (a r : ℕ) : ℕ → ℕ → Type 0 where
-  not-derived : (Derives t a r → ⊥) → OutOfScope t a r 1 0
-  in-the-way : {x : ℕ} → Derives t a r → InTheWay t a r x → OutOfScope t a r 2 x
+  not_derived : (Derives t a r → ⊥) → OutOfScope t a r 1 0
+  in_the_way : {x : ℕ} → Derives t a r → InTheWay t a r x → OutOfScope t a r 2 x
 
 -- Line manager: the administrator of r that all its other administrators derive
 pub record LineManager (t : Tables) (m r : ℕ) : Type 0 where

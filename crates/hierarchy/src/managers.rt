@@ -1,8 +1,8 @@
 // Line managers, read off the views of a board whose live roles are in order.
 ghost use Rattle.std.specs.Prelude.{◌≡◌, true, ◌↔◌, ◌≢◌, ℕ, ◌<◌, length, replicate};
-ghost use Rattle.sets.specs.Sets.{◌isIn◌};
+ghost use Rattle.sets.specs.Sets.{◌is_in◌};
 ghost use Rattle.hierarchy.specs.Tables.{Tables};
-ghost use Rattle.hierarchy.specs.Views.{managerAt};
+ghost use Rattle.hierarchy.specs.Views.{manager_at};
 ghost use Rattle.hierarchy.specs.Engine.{Above, AdminsOf, NearestIs, Orderly, Managers};
 
 use sets::{Pick, but_lowest, common, highest, lowest, union, without};
@@ -13,7 +13,7 @@ const NONE: u8 = 64;
 // The administrators of r: of what derives it, but r itself, those that are above or below all that does.
 fn administrators_of<'v>(down: &'v [u64; 64], up: &'v [u64; 64], r: usize) -> u64
     requires { r < 64 }
-    ensures { (a : ℕ) → (a isIn result) ↔ Above down.now up.now a r }
+    ensures { (a : ℕ) → (a is_in result) ↔ Above down.now up.now a r }
 {
     let mut found = without(up[r], r);
     let mut rest = up[r];
@@ -72,7 +72,7 @@ pub(crate) fn fill_managers<'v>(
 // Whether each role of live but 0 has a line manager.
 pub(crate) fn all_managed(live: u64, manager: &[u8; 64]) -> bool
     requires { length manager.now ≡ 64 }
-    ensures { (result ≡ true) ↔ ((r : ℕ) → r isIn live → r ≢ 0 → managerAt manager.now r ≢ 64) }
+    ensures { (result ≡ true) ↔ ((r : ℕ) → r is_in live → r ≢ 0 → manager_at manager.now r ≢ 64) }
 {
     let mut rest = without(live, 0);
     loop {

@@ -1,6 +1,6 @@
 // The views of a board: what each role derives, and what derives it.
 ghost use Rattle.std.specs.Prelude.{◌≡◌, ◌↔◌, ℕ, ◌<◌, length, replicate};
-ghost use Rattle.sets.specs.Sets.{◌isIn◌};
+ghost use Rattle.sets.specs.Sets.{◌is_in◌};
 ghost use Rattle.hierarchy.specs.Tables.{tables};
 ghost use Rattle.hierarchy.specs.Views.{Turned};
 ghost use Rattle.hierarchy.specs.Engine.{InRows, RowSettled, SoFar, Ready, Finished, Starts, Descended, Ordered, FilledDown, Marked};
@@ -10,7 +10,7 @@ use sets::{Pick, but_lowest, has, lowest, minus, single, union, with, within, wi
 
 // The union of the rows of the roles of s.
 fn rows(table: &[u64; 64], s: u64) -> u64
-    ensures { (z : ℕ) → (z isIn result) ↔ InRows table.now s z }
+    ensures { (z : ℕ) → (z is_in result) ↔ InRows table.now s z }
 {
     let mut sum: u64 = 0;
     let mut rest = s;

@@ -18,11 +18,11 @@ module _ (number place value who cause way : ℕ) (n : number < 256) (p : place 
   pub value_of : whole / 65536 % 65536 ≡ value
   value_of = omega arith
 
-  pub who-of : whole / 4294967296 % 256 ≡ who
-  who-of = omega arith
+  pub who_of : whole / 4294967296 % 256 ≡ who
+  who_of = omega arith
 
-  pub cause-of : whole / 1099511627776 % 256 ≡ cause
-  cause-of = omega arith
+  pub cause_of : whole / 1099511627776 % 256 ≡ cause
+  cause_of = omega arith
 
   pub way_of : whole / 281474976710656 % 256 ≡ way
   way_of = omega arith
@@ -36,13 +36,13 @@ module _ (number place start len : ℕ) (n : number < 256) (p : place < 256) (s 
   pub start_of : answer number place (start + 65536 * len) / 65536 % 65536 ≡ start
   start_of = omega arith
 
-  pub length-of : answer number place (start + 65536 * len) / 4294967296 % 65536 ≡ len
-  length-of = omega arith
+  pub length_of : answer number place (start + 65536 * len) / 4294967296 % 65536 ≡ len
+  length_of = omega arith
 
 -- a job: whether it is held is the value, and its member stands above
 module _ (number held member : ℕ) (n : number < 256) (h : held < 65536) where
   pub held_of : (answer number 0 held + 4294967296 * member) / 65536 % 65536 ≡ held
   held_of = omega arith
 
-  pub member_of : (answer number 0 held + 4294967296 * member) / 4294967296 ≡ member
-  member_of = omega arith
+  pub member_of_lem : (answer number 0 held + 4294967296 * member) / 4294967296 ≡ member
+  member_of_lem = omega arith

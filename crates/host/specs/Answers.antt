@@ -18,18 +18,18 @@ use Rattle.boardfile.specs.declared.change.Place.{Place}
 use Rattle.boardfile.specs.declared.change.Place.TheVariants.{Asked, File, Writing}
 
 -- The places: 0 is the command or the question, and every answer that is done; 1 the file handed in; 2 the writing.
-abbrev pub placeNumber : Place → ℕ
-placeNumber Asked = 0
-placeNumber File = 1
-placeNumber Writing = 2
+abbrev pub place_number : Place → ℕ
+place_number Asked = 0
+place_number File = 1
+place_number Writing = 2
 
 -- of a question, whose own refusals are 2 and 3
 unfoldable pub place_of : ℕ → ℕ
 place_of number = cond (eqb number 0 || (eqb number 2 || eqb number 3)) 0 1
 
 -- of a writing, whose own refusal is 12
-unfoldable pub placeOfWriting : ℕ → ℕ
-placeOfWriting number = cond (eqb number 12) 2 0
+unfoldable pub place_of_writing : ℕ → ℕ
+place_of_writing number = cond (eqb number 12) 2 0
 
 -- ---- questions
 
@@ -48,12 +48,12 @@ ScopePacked f a x r =
     × (r ≡ answer number (place_of number) (num said + 2 * count) + reason 0 cause way)))))
 
 -- the manager's role, and 64 for none
-abbrev pub managerOr64 : Manager → ℕ
-managerOr64 (Role m) = m
-managerOr64 Nobody = 64
+abbrev pub manager_or64 : Manager → ℕ
+manager_or64 (Role m) = m
+manager_or64 Nobody = 64
 
 abbrev pub ManagerPacked : List ℕ → ℕ → ℕ → Type 0
-ManagerPacked f x r = (number : ℕ) × ((m : Manager) × ManagerOnFile f x number m × (r ≡ answer number (place_of number) (managerOr64 m)))
+ManagerPacked f x r = (number : ℕ) × ((m : Manager) × ManagerOnFile f x number m × (r ≡ answer number (place_of number) (manager_or64 m)))
 
 abbrev pub StepsPacked : List ℕ → ℕ → ℕ → Type 0
 StepsPacked f x r = (number : ℕ) × ((steps : ℕ) × StepsOnFile f x number steps × (r ≡ answer number (place_of number) steps))
@@ -67,7 +67,7 @@ StretchPacked f role r =
 
 abbrev pub Commanded : List ℕ → Command → List ℕ → List ℕ → ℕ → Type 0
 Commanded f c entry exit r =
-    (place : Place) × ((a : Answer) × ((len : ℕ) × CommandAnswer f c entry exit place a len × (r ≡ answer_of a (placeNumber place) len)))
+    (place : Place) × ((a : Answer) × ((len : ℕ) × CommandAnswer f c entry exit place a len × (r ≡ answer_of a (place_number place) len)))
 
 -- ---- the caller's own board: `entry` before the call and `exit` after it
 
@@ -76,11 +76,11 @@ Applied entry c exit r = (a : Answer) × Decided entry c a exit × (r ≡ answer
 
 -- a run on it, with a row that holds `row` before the call and `answered` after it; 12 is the writing's
 abbrev pub RunPacked : Board → List Command → List ℕ → List ℕ → Board → ℕ → Type 0
-RunPacked entry commands row answered exit r = (number : ℕ) × RunAnswer entry commands row answered number exit × (r ≡ answer number (placeOfWriting number) 0)
+RunPacked entry commands row answered exit r = (number : ℕ) × RunAnswer entry commands row answered number exit × (r ≡ answer number (place_of_writing number) 0)
 
 abbrev pub ReadPacked : List ℕ → Board → Board → ℕ → Type 0
 ReadPacked f entry exit r = (number : ℕ) × ReadInto f entry exit number × (r ≡ answer number (place_of number) 0)
 
 -- its file in a buffer from a place on; the value is the file's length
 abbrev pub WritePacked : Board → List ℕ → ℕ → List ℕ → ℕ → Type 0
-WritePacked b entry at exit r = (number : ℕ) × ((len : ℕ) × WriteAnswer b entry at exit number len × (r ≡ answer number (placeOfWriting number) len))
+WritePacked b entry at exit r = (number : ℕ) × ((len : ℕ) × WriteAnswer b entry at exit number len × (r ≡ answer number (place_of_writing number) len))

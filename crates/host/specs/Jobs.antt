@@ -17,13 +17,13 @@ abbrev pub ReleasePacked : Board → Jobs → ℕ → ℕ → ℕ → Jobs → �
 ReleasePacked b jobs j m role list r = (number : ℕ) × ReleaseAnswer b jobs j m role number list × (r ≡ answer number 0 0)
 
 -- 1 where the job is held, and by whom
-abbrev pub oneIfHeld : State → ℕ
-oneIfHeld IsOpen = 0
-oneIfHeld (HeldBy m) = 1
+abbrev pub one_if_held : State → ℕ
+one_if_held IsOpen = 0
+one_if_held (HeldBy m) = 1
 
-abbrev pub memberOr0 : State → ℕ
-memberOr0 IsOpen = 0
-memberOr0 (HeldBy m) = m
+abbrev pub member_or0 : State → ℕ
+member_or0 IsOpen = 0
+member_or0 (HeldBy m) = m
 
 abbrev pub JobPacked : Jobs → ℕ → ℕ → Type 0
-JobPacked jobs j r = (number : ℕ) × ((state : State) × LookAnswer jobs j number state × (r ≡ answer number 0 (oneIfHeld state) + 4294967296 * memberOr0 state))
+JobPacked jobs j r = (number : ℕ) × ((state : State) × LookAnswer jobs j number state × (r ≡ answer number 0 (one_if_held state) + 4294967296 * member_or0 state))

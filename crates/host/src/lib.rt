@@ -6,7 +6,7 @@ mod lists;
 mod values;
 
 ghost use Rattle.std.specs.Prelude.{◌≡◌};
-ghost use Rattle.board.specs.Boards.{boardOf, foundingBoard};
+ghost use Rattle.board.specs.Boards.{board_of, founding_board};
 ghost use Rattle.host.specs.Answers.{Applied, RunPacked, Checked, DerivesPacked, ScopePacked, ManagerPacked, StepsPacked, StretchPacked, Commanded, ReadPacked, WritePacked};
 
 use answers::{answered, answered_at, packed, reason};
@@ -25,7 +25,7 @@ use writer::write_of;
 // The founding board, over the caller's own.
 #[unsafe(no_mangle)]
 pub extern "C" fn board_found(b: &mut Board) -> u64
-    ensures { (result ≡ 0) × (b.new ≡ foundingBoard) }
+    ensures { (result ≡ 0) × (b.new ≡ founding_board) }
 {
     *b = Board::founding();
     0
@@ -59,7 +59,7 @@ fn read_packed(
     manager: &mut [u8; 64],
     rights: &mut [u8; 64],
 ) -> u64
-    ensures { ReadPacked file.now (boardOf live.old i.old a.old derives.old derivers.old manager.old rights.old) (boardOf live.new i.new a.new derives.new derivers.new manager.new rights.new) result }
+    ensures { ReadPacked file.now (board_of live.old i.old a.old derives.old derivers.old manager.old rights.old) (board_of live.new i.new a.new derives.new derivers.new manager.new rights.new) result }
 {
     let q = read_into(file, live, i, a, derives, derivers, manager, rights);
     packed(q, place_of(q), 0)
@@ -111,7 +111,7 @@ fn write_packed<'t>(
     out: &mut [u8],
     at: usize,
 ) -> u64
-    ensures { WritePacked (boardOf live i.now a.now derives.now derivers.now manager.now rights.now) out.old at out.new result }
+    ensures { WritePacked (board_of live i.now a.now derives.now derivers.now manager.now rights.now) out.old at out.new result }
 {
     let q = write_of(live, i, a, derives, derivers, manager, rights, out, at);
     packed(q.number, place_of_writing(q.number), q.len as u16)

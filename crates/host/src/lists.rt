@@ -1,9 +1,9 @@
 // The job list for programs in C. `host/jobs.h` has these functions on the rows of a list and the fields of a board, and those on its
 // structs on top of them.
 ghost use Rattle.std.specs.Prelude.{◌≡◌};
-ghost use Rattle.board.specs.Boards.{boardOf};
-ghost use Rattle.jobs.specs.Lists.{jobsOf};
-ghost use Rattle.host.specs.Jobs.{StartPacked, ClaimPacked, ReleasePacked, JobPacked, oneIfHeld, memberOr0};
+ghost use Rattle.board.specs.Boards.{board_of};
+ghost use Rattle.jobs.specs.Lists.{jobs_of};
+ghost use Rattle.host.specs.Jobs.{StartPacked, ClaimPacked, ReleasePacked, JobPacked, one_if_held, member_or0};
 
 use answers::packed;
 use jobs::{State, claim_of, look, release_of, start};
@@ -16,7 +16,7 @@ pub extern "C" fn jobs_start_rows(
     marks: &mut [u8; 1024],
     members: &mut [u32; 1024],
 ) -> u64
-    ensures { StartPacked listed.now (jobsOf roles.new marks.new members.new) result }
+    ensures { StartPacked listed.now (jobs_of roles.new marks.new members.new) result }
 {
     packed(start(listed, roles, marks, members), 0, 0)
 }
@@ -38,7 +38,7 @@ pub extern "C" fn jobs_claim_rows<'t>(
     member: u32,
     role: u32,
 ) -> u64
-    ensures { ClaimPacked (boardOf live i.now a.now derives.now derivers.now manager.now rights.now) (jobsOf roles.now marks.old members.old) job member role (jobsOf roles.now marks.new members.new) result }
+    ensures { ClaimPacked (board_of live i.now a.now derives.now derivers.now manager.now rights.now) (jobs_of roles.now marks.old members.old) job member role (jobs_of roles.now marks.new members.new) result }
 {
     let number = claim_of(
         live, i, a, derives, derivers, manager, rights, roles, marks, members, job, member, role,
@@ -63,7 +63,7 @@ pub extern "C" fn jobs_release_rows<'t>(
     member: u32,
     role: u32,
 ) -> u64
-    ensures { ReleasePacked (boardOf live i.now a.now derives.now derivers.now manager.now rights.now) (jobsOf roles.now marks.old members.old) job member role (jobsOf roles.now marks.new members.new) result }
+    ensures { ReleasePacked (board_of live i.now a.now derives.now derivers.now manager.now rights.now) (jobs_of roles.now marks.old members.old) job member role (jobs_of roles.now marks.new members.new) result }
 {
     let number = release_of(
         live, i, a, derives, derivers, manager, rights, roles, marks, members, job, member, role,
@@ -73,7 +73,7 @@ pub extern "C" fn jobs_release_rows<'t>(
 
 // 1 where the job is held.
 fn one_if_held(state: State) -> u16
-    ensures { result ≡ oneIfHeld state }
+    ensures { result ≡ one_if_held state }
 {
     match state {
         State::IsOpen => 0,
@@ -83,7 +83,7 @@ fn one_if_held(state: State) -> u16
 
 // Who holds it; 0 where nobody does.
 fn member_or_0(state: State) -> u32
-    ensures { result ≡ memberOr0 state }
+    ensures { result ≡ member_or0 state }
 {
     match state {
         State::IsOpen => 0,
@@ -99,7 +99,7 @@ pub extern "C" fn jobs_job_rows<'t>(
     members: &'t [u32; 1024],
     job: u32,
 ) -> u64
-    ensures { JobPacked (jobsOf roles.now marks.now members.now) job result }
+    ensures { JobPacked (jobs_of roles.now marks.now members.now) job result }
 {
     let q = look(roles, marks, members, job);
     let state = q.state;

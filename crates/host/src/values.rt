@@ -2,7 +2,7 @@
 ghost use Rattle.std.specs.Prelude.{◌≡◌, ◌+◌, ◌*◌, ◌≤◌};
 ghost use Rattle.sets.specs.Sets.{num};
 ghost use Rattle.answers.specs.Packing.{answer};
-ghost use Rattle.host.specs.Answers.{place_of, placeOfWriting, placeNumber, managerOr64};
+ghost use Rattle.host.specs.Answers.{place_of, place_of_writing, place_number, manager_or64};
 
 use answers::packed;
 use board::kept::Manager;
@@ -36,20 +36,20 @@ pub(crate) fn place_of(number: u8) -> u8
 
 // Where the number of a writing arose: want of room, 12, is its own; a board that isn't sound is refused as a command on it is.
 pub(crate) fn place_of_writing(number: u8) -> u8
-    ensures { result ≡ placeOfWriting number }
+    ensures { result ≡ place_of_writing number }
 {
     if number == 12 { WRITING } else { ASKED }
 }
 
 // The answer of a run, which has a number and no value.
 pub(crate) fn run_packed(number: u8) -> u64
-    ensures { result ≡ answer number (placeOfWriting number) 0 }
+    ensures { result ≡ answer number (place_of_writing number) 0 }
 {
     packed(number, place_of_writing(number), 0)
 }
 
 pub(crate) fn place_number(place: Place) -> u8
-    ensures { result ≡ placeNumber place }
+    ensures { result ≡ place_number place }
 {
     match place {
         Place::Asked => ASKED,
@@ -76,7 +76,7 @@ pub(crate) fn scope_value(yes: bool, count: u32) -> u16
 }
 
 pub(crate) fn manager_value(m: Manager) -> u16
-    ensures { result ≡ managerOr64 m }
+    ensures { result ≡ manager_or64 m }
 {
     match m {
         Manager::Role(x) => x as u16,

@@ -9,25 +9,25 @@ use lib.Dec.{eqb, ltb}
 use lib.ListN.{length, get_or, set, take, drop, replicate}
 use lib.Seq.{take-suc, drop-cons, append_snoc, set_at, length-take-le}
 use borrow.Author.Tests.{eqb-true, eq-eqb, ne_eqb, lt-ltb, le-ltb}
-use Rattle.sets.proofs.Bools.{and_both, and_right, false-no, lt-or-ge}
+use Rattle.sets.proofs.Bools.{and_both, and_right, false_no, lt_or_ge}
 use Rattle.hierarchy.specs.Words.{Derives, Scope}
 use Rattle.hierarchy.specs.First.{First}
 use Rattle.hierarchy.proofs.FirstLaws.{hit, pass, none}
 use Rattle.board.specs.Boards.{tables_of}
 use Rattle.board.specs.declared.Board.{Board}
-use Rattle.board.proofs.Rules.{first_done, first-refused, first_next}
+use Rattle.board.proofs.Rules.{first_done, first_refused, first_next}
 use Rattle.questions.specs.Questions.{refusals, DerivesAnswer, ScopeAnswer}
-use Rattle.jobs.specs.Lists.{Jobs, jobsOf, role_at, roleOf, Open, Held}
-use Rattle.jobs.specs.Answers.{Fits, StartAnswer, onBoard, Settles, ClaimAnswer, ReleaseAnswer}
+use Rattle.jobs.specs.Lists.{Jobs, jobs_of, role_at, role_of, Open, Held}
+use Rattle.jobs.specs.Answers.{Fits, StartAnswer, on_board, Settles, ClaimAnswer, ReleaseAnswer}
 
 -- ---- an answer, by its number
 
 module _ {rules : List (ℕ × Type 0)} {otherwise after list : Jobs} where
-  settles-refused : {n : ℕ} → First rules n → n ≢ 0 → list ≡ otherwise → Settles rules otherwise after n list
-  settles-refused f z e = record { numbered = f; done = λ k. absurd (z k); refused = λ _. e }
+  settles_refused : {n : ℕ} → First rules n → n ≢ 0 → list ≡ otherwise → Settles rules otherwise after n list
+  settles_refused f z e = record { numbered = f; done = λ k. absurd (z k); refused = λ _. e }
 
-  settles-done : First rules 0 → list ≡ after → Settles rules otherwise after 0 list
-  settles-done f e = record { numbered = f; done = λ _. e; refused = λ k. absurd (k refl) }
+  settles_done : First rules 0 → list ≡ after → Settles rules otherwise after 0 list
+  settles_done f e = record { numbered = f; done = λ _. e; refused = λ k. absurd (k refl) }
 
 -- ---- the start
 
@@ -42,37 +42,37 @@ copied listed roles k l g =
     ∙ ap₂ (λ (u v : List ℕ). u ++ v) (sym (take-suc listed k 0 l)) refl
     ∙ ap (λ (n : ℕ). take n listed ++ drop n roles) e
 
-drop-replicate : (k n a : ℕ) → k ≤ n → drop k (replicate n a) ≡ replicate (n - k) a
-drop-replicate zero n a l = ap (λ (m : ℕ). replicate m a) {x = n} {y = n - 0} (omega arith)
-drop-replicate (suc k) zero a l = absurd (omega (arith, l))
-drop-replicate (suc k) (suc n) a l = drop-replicate k n a (omega arith) ∙ ap (λ (m : ℕ). replicate m a) {x = n - k} {y = suc n - suc k} (omega arith)
+drop_replicate : (k n a : ℕ) → k ≤ n → drop k (replicate n a) ≡ replicate (n - k) a
+drop_replicate zero n a l = ap (λ (m : ℕ). replicate m a) {x = n} {y = n - 0} (omega arith)
+drop_replicate (suc k) zero a l = absurd (omega (arith, l))
+drop_replicate (suc k) (suc n) a l = drop_replicate k n a (omega arith) ∙ ap (λ (m : ℕ). replicate m a) {x = n - k} {y = suc n - suc k} (omega arith)
 
 -- a start that is refused, and one that is done
-pub starts-empty : {listed roles marks members : List ℕ} → (Fits listed → ⊥) → roles ≡ replicate 1024 64 → marks ≡ replicate 1024 0 → members ≡ replicate 1024 0
-    → StartAnswer listed 2 (jobsOf roles marks members)
-starts-empty n u v w = settles-refused (hit _ _ _ n) (λ k. omega (arith, k)) (rw (u, v, w) refl)
+pub starts_empty : {listed roles marks members : List ℕ} → (Fits listed → ⊥) → roles ≡ replicate 1024 64 → marks ≡ replicate 1024 0 → members ≡ replicate 1024 0
+    → StartAnswer listed 2 (jobs_of roles marks members)
+starts_empty n u v w = settles_refused (hit _ _ _ n) (λ k. omega (arith, k)) (rw (u, v, w) refl)
 
 pub starts : {listed roles marks members : List ℕ} → Fits listed → roles ≡ listed ++ drop (length listed) (replicate 1024 64) → marks ≡ replicate 1024 0
-    → members ≡ replicate 1024 0 → StartAnswer listed 0 (jobsOf roles marks members)
-starts {listed} f u v w = settles-done (pass _ _ _ _ (λ n. n f) none) (rw (u, v, w, drop-replicate (length listed) 1024 64 f.few) refl)
+    → members ≡ replicate 1024 0 → StartAnswer listed 0 (jobs_of roles marks members)
+starts {listed} f u v w = settles_done (pass _ _ _ _ (λ n. n f) none) (rw (u, v, w, drop_replicate (length listed) 1024 64 f.few) refl)
 
 -- ---- the role of a job
 
-pub role-past : (roles : List ℕ) (j : ℕ) → 1024 ≤ j → 64 ≡ role_at roles j
+pub role_past : (roles : List ℕ) (j : ℕ) → 1024 ≤ j → 64 ≡ role_at roles j
 unfolding role_at
-role-past roles j g = sym (ap (λ (p : Bool). cond p (get_or roles j 0) 64) (le-ltb j 1024 g))
+role_past roles j g = sym (ap (λ (p : Bool). cond p (get_or roles j 0) 64) (le-ltb j 1024 g))
 
-pub role-there : (roles : List ℕ) (j : ℕ) → j < 1024 → get_or roles j 0 ≡ role_at roles j
+pub role_there : (roles : List ℕ) (j : ℕ) → j < 1024 → get_or roles j 0 ≡ role_at roles j
 unfolding role_at
-role-there roles j l = sym (ap (λ (p : Bool). cond p (get_or roles j 0) 64) (lt-ltb j 1024 l))
+role_there roles j l = sym (ap (λ (p : Bool). cond p (get_or roles j 0) 64) (lt-ltb j 1024 l))
 
 -- a job with a role has a place
 pub placed : (roles : List ℕ) (j : ℕ) → role_at roles j < 64 → j < 1024
-placed roles j l = ⊎_elim (λ k. k) (λ g. absurd (omega (arith, l, role-past roles j g))) (lt-or-ge j 1024)
+placed roles j l = ⊎_elim (λ k. k) (λ g. absurd (omega (arith, l, role_past roles j g))) (lt_or_ge j 1024)
 
 -- a role that a question was not refused over is one
 unrefused : (b : Board) (x y : ℕ) {n : ℕ} → First (refusals b x y) n → n ≡ 0 → y < 64
-unrefused b x y f z = ⊎_elim (λ l. l) (λ g. absurd ((first_done (refusals b x y) refl (subst (First (refusals b x y)) z f)).1.0 (inr g))) (lt-or-ge y 64)
+unrefused b x y f z = ⊎_elim (λ l. l) (λ g. absurd ((first_done (refusals b x y) refl (subst (First (refusals b x y)) z f)).1.0 (inr g))) (lt_or_ge y 64)
 
 -- so the job is in the list
 pub found : (b : Board) (x : ℕ) (roles : List ℕ) (j : ℕ) {y n : ℕ} → y ≡ role_at roles j → First (refusals b x y) n → n ≡ 0 → j < 1024
@@ -80,73 +80,73 @@ found b x roles j {y} e f z = placed roles j (subst (λ (r : ℕ). r < 64) e (un
 
 -- ---- open and held, by the mark
 
-module _ (jobs : Jobs) (j : ℕ) (l : roleOf jobs j < 64) where
-  pub marked-open : get_or jobs.marks j 0 ≡ 0 → Open jobs j
-  marked-open e = and_both _ _ (lt-ltb _ 64 l) (eq-eqb _ 0 e)
+module _ (jobs : Jobs) (j : ℕ) (l : role_of jobs j < 64) where
+  pub marked_open : get_or jobs.marks j 0 ≡ 0 → Open jobs j
+  marked_open e = and_both _ _ (lt-ltb _ 64 l) (eq-eqb _ 0 e)
 
-  pub marked-held : get_or jobs.marks j 0 ≢ 0 → Held jobs j
-  marked-held n = and_both _ _ (lt-ltb _ 64 l) (ap not (ne_eqb _ 0 n))
+  pub marked_held : get_or jobs.marks j 0 ≢ 0 → Held jobs j
+  marked_held n = and_both _ _ (lt-ltb _ 64 l) (ap not (ne_eqb _ 0 n))
 
-pub open-mark : (jobs : Jobs) (j : ℕ) → Open jobs j → get_or jobs.marks j 0 ≡ 0
-open-mark jobs j e = eqb-true _ 0 (and_right (ltb (roleOf jobs j) 64) (eqb (get_or jobs.marks j 0) 0) e)
+pub open_mark : (jobs : Jobs) (j : ℕ) → Open jobs j → get_or jobs.marks j 0 ≡ 0
+open_mark jobs j e = eqb-true _ 0 (and_right (ltb (role_of jobs j) 64) (eqb (get_or jobs.marks j 0) 0) e)
 
-pub held-mark : (jobs : Jobs) (j : ℕ) → Held jobs j → get_or jobs.marks j 0 ≢ 0
-held-mark jobs j e z = false-no (ap not (eq-eqb _ 0 z)) (and_right (ltb (roleOf jobs j) 64) (not (eqb (get_or jobs.marks j 0) 0)) e)
+pub held_mark : (jobs : Jobs) (j : ℕ) → Held jobs j → get_or jobs.marks j 0 ≢ 0
+held_mark jobs j e z = false_no (ap not (eq-eqb _ 0 z)) (and_right (ltb (role_of jobs j) 64) (not (eqb (get_or jobs.marks j 0) 0)) e)
 
 -- ---- the board's numbers first, then the list's
 
 -- asked of the number that was read as the job's role
-module _ (b : Board) (jobs : Jobs) (j r : ℕ) {y : ℕ} (e : y ≡ roleOf jobs j) where
+module _ (b : Board) (jobs : Jobs) (j r : ℕ) {y : ℕ} (e : y ≡ role_of jobs j) where
   module _ (n : ℕ) (f : First (refusals b r y) n) where
-    asked : First (onBoard b jobs j r) n
+    asked : First (on_board b jobs j r) n
     asked = subst (λ (x : ℕ). First (refusals b r x) n) e f
 
     -- a refusal of the board's is the list's, whatever comes after it
-    pub refused-first : (rest : List (ℕ × Type 0)) {after : Jobs} → n ≢ 0 → Settles (onBoard b jobs j r ++ rest) jobs after n jobs
-    refused-first rest z = settles-refused (first-refused (onBoard b jobs j r) rest n z asked) z refl
+    pub refused_first : (rest : List (ℕ × Type 0)) {after : Jobs} → n ≢ 0 → Settles (on_board b jobs j r ++ rest) jobs after n jobs
+    refused_first rest z = settles_refused (first_refused (on_board b jobs j r) rest n z asked) z refl
 
     module _ (z : n ≡ 0) where
-      listed : roleOf jobs j < 64
-      listed = unrefused b r (roleOf jobs j) asked z
+      listed : role_of jobs j < 64
+      listed = unrefused b r (role_of jobs j) asked z
 
-      next : (k : ℕ) (rest : List (ℕ × Type 0)) → First rest k → First (onBoard b jobs j r ++ rest) k
-      next k rest h = first_next (onBoard b jobs j r) rest k (first_done (onBoard b jobs j r) refl (subst (First (onBoard b jobs j r)) z asked)) h
+      next : (k : ℕ) (rest : List (ℕ × Type 0)) → First rest k → First (on_board b jobs j r ++ rest) k
+      next k rest h = first_next (on_board b jobs j r) rest k (first_done (on_board b jobs j r) refl (subst (First (on_board b jobs j r)) z asked)) h
 
   module _ {n : ℕ} {said : Bool} (m : ℕ) (d : DerivesAnswer b r y n said) (z : n ≡ 0) where
-    pub claim-14 : get_or jobs.marks j 0 ≢ 0 → ClaimAnswer b jobs j m r 14 jobs
-    claim-14 k = settles-refused (next n d.numbered z 14 _ (hit _ _ _ (λ o. k (open-mark jobs j o)))) (λ q. omega (arith, q)) refl
+    pub claim_14 : get_or jobs.marks j 0 ≢ 0 → ClaimAnswer b jobs j m r 14 jobs
+    claim_14 k = settles_refused (next n d.numbered z 14 _ (hit _ _ _ (λ o. k (open_mark jobs j o)))) (λ q. omega (arith, q)) refl
 
     module _ (k : get_or jobs.marks j 0 ≡ 0) where
-      is_open : (Open jobs j → ⊥) → ⊥
-      is_open h = h (marked-open jobs j (listed n d.numbered z) k)
+      is_open_lem : (Open jobs j → ⊥) → ⊥
+      is_open_lem h = h (marked_open jobs j (listed n d.numbered z) k)
 
-      derived : (said ≡ true) ↔ Derives (tables_of b) r (roleOf jobs j)
+      derived : (said ≡ true) ↔ Derives (tables_of b) r (role_of jobs j)
       derived = subst (λ (x : ℕ). (said ≡ true) ↔ Derives (tables_of b) r x) e (d.done z)
 
-      pub claim-15 : said ≡ false → ClaimAnswer b jobs j m r 15 jobs
-      claim-15 q = settles-refused (next n d.numbered z 15 _ (pass _ _ _ _ is_open (hit _ _ _ (λ h. false-no q (derived.1 h))))) (λ q. omega (arith, q)) refl
+      pub claim_15 : said ≡ false → ClaimAnswer b jobs j m r 15 jobs
+      claim_15 q = settles_refused (next n d.numbered z 15 _ (pass _ _ _ _ is_open_lem (hit _ _ _ (λ h. false_no q (derived.1 h))))) (λ q. omega (arith, q)) refl
 
-      pub claim-done : said ≡ true → {marks members : List ℕ} → marks ≡ set jobs.marks j 1 → members ≡ set jobs.members j m
-          → ClaimAnswer b jobs j m r 0 (jobsOf jobs.roles marks members)
-      claim-done q u v = settles-done (next n d.numbered z 0 _ (pass _ _ _ _ is_open (pass _ _ _ _ (λ h. h (derived.0 q)) none))) (ap₂ (jobsOf jobs.roles) u v)
+      pub claim_done : said ≡ true → {marks members : List ℕ} → marks ≡ set jobs.marks j 1 → members ≡ set jobs.members j m
+          → ClaimAnswer b jobs j m r 0 (jobs_of jobs.roles marks members)
+      claim_done q u v = settles_done (next n d.numbered z 0 _ (pass _ _ _ _ is_open_lem (pass _ _ _ _ (λ h. h (derived.0 q)) none))) (ap₂ (jobs_of jobs.roles) u v)
 
   module _ {n count cause way : ℕ} {said : Bool} (m : ℕ) (d : ScopeAnswer b r y n said count cause way) (z : n ≡ 0) where
-    pub release-14 : get_or jobs.marks j 0 ≡ 0 → ReleaseAnswer b jobs j m r 14 jobs
-    release-14 k = settles-refused (next n d.numbered z 14 _ (hit _ _ _ (λ h. held-mark jobs j h k))) (λ q. omega (arith, q)) refl
+    pub release_14 : get_or jobs.marks j 0 ≡ 0 → ReleaseAnswer b jobs j m r 14 jobs
+    release_14 k = settles_refused (next n d.numbered z 14 _ (hit _ _ _ (λ h. held_mark jobs j h k))) (λ q. omega (arith, q)) refl
 
     module _ (k : get_or jobs.marks j 0 ≢ 0) where
       held : Held jobs j
-      held = marked-held jobs j (listed n d.numbered z) k
+      held = marked_held jobs j (listed n d.numbered z) k
 
-      scoped : (said ≡ true) ↔ Scope (tables_of b) r (roleOf jobs j)
+      scoped : (said ≡ true) ↔ Scope (tables_of b) r (role_of jobs j)
       scoped = subst (λ (x : ℕ). (said ≡ true) ↔ Scope (tables_of b) r x) e (d.done z).0.0
 
-      pub release-15 : get_or jobs.members j 0 ≢ m → said ≡ false → ReleaseAnswer b jobs j m r 15 jobs
-      release-15 h q = settles-refused (next n d.numbered z 15 _ (pass _ _ _ _ (λ u. u held) (hit _ _ _ (λ w. h w.1, λ w. false-no q (scoped.1 w))))) (λ q. omega (arith, q)) refl
+      pub release_15 : get_or jobs.members j 0 ≢ m → said ≡ false → ReleaseAnswer b jobs j m r 15 jobs
+      release_15 h q = settles_refused (next n d.numbered z 15 _ (pass _ _ _ _ (λ u. u held) (hit _ _ _ (λ w. h w.1, λ w. false_no q (scoped.1 w))))) (λ q. omega (arith, q)) refl
 
       -- by the holder, or through a scope that has it
-      pub release-done : (get_or jobs.members j 0 ≡ m) ⊎ (said ≡ true) → {marks members : List ℕ} → marks ≡ set jobs.marks j 0 → members ≡ set jobs.members j 0
-          → ReleaseAnswer b jobs j m r 0 (jobsOf jobs.roles marks members)
-      release-done h u v = settles-done
+      pub release_done : (get_or jobs.members j 0 ≡ m) ⊎ (said ≡ true) → {marks members : List ℕ} → marks ≡ set jobs.marks j 0 → members ≡ set jobs.members j 0
+          → ReleaseAnswer b jobs j m r 0 (jobs_of jobs.roles marks members)
+      release_done h u v = settles_done
           (next n d.numbered z 0 _ (pass _ _ _ _ (λ w. w held) (pass _ _ _ _ (λ w. ⊎_elim (λ q. w.0 (held, q)) (λ q. w.1 (scoped.0 q)) h) none)))
-          (ap₂ (jobsOf jobs.roles) u v)
+          (ap₂ (jobs_of jobs.roles) u v)

@@ -6,7 +6,7 @@ use Rattle.board.specs.Boards.{tables_of}
 use Rattle.board.specs.Asked.{Answered}
 use Rattle.board.specs.declared.Board.{Board}
 use Rattle.questions.specs.Questions.{refusals}
-use Rattle.jobs.specs.Lists.{Jobs, jobsOf, roleOf, Open, Held, HeldBy, taken, freed}
+use Rattle.jobs.specs.Lists.{Jobs, jobs_of, role_of, Open, Held, HeldBy, taken, freed}
 use Rattle.jobs.specs.declared.State.{State}
 use Rattle.jobs.specs.declared.State.TheVariants.{IsOpen, HeldBy as IsHeldBy}
 
@@ -27,39 +27,39 @@ pub record Fits (listed : List ℕ) : Type 0 where
   pub roles : AllRoles listed
 
 -- these jobs, all open; 64 in the places past them
-abbrev pub newList : List ℕ → Jobs
-newList listed = jobsOf (listed ++ replicate (1024 - length listed) 64) (replicate 1024 0) (replicate 1024 0)
+abbrev pub new_list : List ℕ → Jobs
+new_list listed = jobs_of (listed ++ replicate (1024 - length listed) 64) (replicate 1024 0) (replicate 1024 0)
 
-abbrev pub startRefusals : List ℕ → List (ℕ × Type 0)
-startRefusals listed = (2, (Fits listed → ⊥)) ∷ []
+abbrev pub start_refusals : List ℕ → List (ℕ × Type 0)
+start_refusals listed = (2, (Fits listed → ⊥)) ∷ []
 
 -- done leaves the list of these jobs, refused the empty one, whatever was there
 abbrev pub StartAnswer : List ℕ → ℕ → Jobs → Type 0
-StartAnswer listed = Settles (startRefusals listed) (newList []) (newList listed)
+StartAnswer listed = Settles (start_refusals listed) (new_list []) (new_list listed)
 
 -- ---- a claim and a release of job j by the member m who acts in the role r, on the board b
 
 -- The board's own 1, 2 and 3 come first, of a question that names the role acted in and the job's role: so a job past the list, which
 -- has no role, gives 2, and one whose role isn't live 3.
-abbrev pub onBoard : Board → Jobs → ℕ → ℕ → List (ℕ × Type 0)
-onBoard b jobs j r = refusals b r (roleOf jobs j)
+abbrev pub on_board : Board → Jobs → ℕ → ℕ → List (ℕ × Type 0)
+on_board b jobs j r = refusals b r (role_of jobs j)
 
 -- 14: the job isn't open; 15: the role acted in doesn't derive the job's role
-abbrev pub claimRefusals : Board → Jobs → ℕ → ℕ → List (ℕ × Type 0)
-claimRefusals b jobs j r =
-    onBoard b jobs j r ++ (14, (Open jobs j → ⊥)) ∷ (15, (Derives (tables_of b) r (roleOf jobs j) → ⊥)) ∷ []
+abbrev pub claim_refusals : Board → Jobs → ℕ → ℕ → List (ℕ × Type 0)
+claim_refusals b jobs j r =
+    on_board b jobs j r ++ (14, (Open jobs j → ⊥)) ∷ (15, (Derives (tables_of b) r (role_of jobs j) → ⊥)) ∷ []
 
 -- 14: the job isn't held; 15: not by this member, and the job's role is not in the scope of the role acted in
-abbrev pub releaseRefusals : Board → Jobs → ℕ → ℕ → ℕ → List (ℕ × Type 0)
-releaseRefusals b jobs j m r =
-    onBoard b jobs j r ++ (14, (Held jobs j → ⊥)) ∷ (15, (HeldBy jobs j m → ⊥) × (Scope (tables_of b) r (roleOf jobs j) → ⊥)) ∷ []
+abbrev pub release_refusals : Board → Jobs → ℕ → ℕ → ℕ → List (ℕ × Type 0)
+release_refusals b jobs j m r =
+    on_board b jobs j r ++ (14, (Held jobs j → ⊥)) ∷ (15, (HeldBy jobs j m → ⊥) × (Scope (tables_of b) r (role_of jobs j) → ⊥)) ∷ []
 
 -- done leaves the job taken, or open again; a refusal leaves the list there was
 abbrev pub ClaimAnswer : Board → Jobs → ℕ → ℕ → ℕ → ℕ → Jobs → Type 0
-ClaimAnswer b jobs j m r = Settles (claimRefusals b jobs j r) jobs (taken jobs j m)
+ClaimAnswer b jobs j m r = Settles (claim_refusals b jobs j r) jobs (taken jobs j m)
 
 abbrev pub ReleaseAnswer : Board → Jobs → ℕ → ℕ → ℕ → ℕ → Jobs → Type 0
-ReleaseAnswer b jobs j m r = Settles (releaseRefusals b jobs j m r) jobs (freed jobs j)
+ReleaseAnswer b jobs j m r = Settles (release_refusals b jobs j m r) jobs (freed jobs j)
 
 -- ---- a look at job j: 2 past the list, and then open is said; else its state
 
@@ -68,4 +68,4 @@ StateIs jobs j IsOpen = Open jobs j
 StateIs jobs j (IsHeldBy m) = HeldBy jobs j m
 
 abbrev pub LookAnswer : Jobs → ℕ → ℕ → State → Type 0
-LookAnswer jobs j = Answered ((2, 63 < roleOf jobs j) ∷ []) (StateIs jobs j) IsOpen
+LookAnswer jobs j = Answered ((2, 63 < role_of jobs j) ∷ []) (StateIs jobs j) IsOpen

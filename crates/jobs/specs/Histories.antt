@@ -3,7 +3,7 @@ use Rattle.std.specs.Prelude.{◌≡◌, Bool, true, false, ◌&&◌, List, [], 
 use Rattle.sets.specs.Sets.{num}
 use Rattle.board.specs.declared.Board.{Board}
 use Rattle.jobs.specs.Lists.{Jobs}
-use Rattle.jobs.specs.Answers.{Fits, newList, ClaimAnswer, ReleaseAnswer}
+use Rattle.jobs.specs.Answers.{Fits, new_list, ClaimAnswer, ReleaseAnswer}
 
 -- of a job, by a member, in a role acted in
 pub data Event : Type 0 where
@@ -30,7 +30,7 @@ pub data Went : Jobs → List Entry → Jobs → Type 0 where
 -- from a start on
 pub record History (listed : List ℕ) (log : List Entry) (last : Jobs) : Type 0 where
   pub fits : Fits listed
-  pub went : Went (newList listed) log last
+  pub went : Went (new_list listed) log last
 
 -- ---- what can be seen in a log
 
@@ -47,12 +47,12 @@ abbrev pub releases : ℕ → Event → Bool
 releases j (claim b k m r) = false
 releases j (release b k m r) = eqb k j
 
-abbrev pub releaseOf : ℕ → Entry → Bool
-releaseOf j e = eqb e.number 0 && releases j e.event
+abbrev pub release_of : ℕ → Entry → Bool
+release_of j e = eqb e.number 0 && releases j e.event
 
-abbrev pub memberOf : Event → ℕ
-memberOf (claim b j m r) = m
-memberOf (release b j m r) = m
+abbrev pub member_of : Event → ℕ
+member_of (claim b j m r) = m
+member_of (release b j m r) = m
 
 -- how many entries p says yes of
 abbrev pub tally : (Entry → Bool) → List Entry → ℕ
@@ -62,13 +62,13 @@ tally p (e ∷ rest) = num (p e) + tally p rest
 abbrev pub claims_of : ℕ → List Entry → ℕ
 claims_of j = tally (claim_of j)
 
-abbrev pub releasesOf : ℕ → List Entry → ℕ
-releasesOf j = tally (releaseOf j)
+abbrev pub releases_of : ℕ → List Entry → ℕ
+releases_of j = tally (release_of j)
 
 -- how many successful claims of job j have no successful release of it after them
-abbrev pub unreleasedOf : ℕ → List Entry → ℕ
-unreleasedOf j [] = 0
-unreleasedOf j (e ∷ rest) = num (claim_of j e && eqb (releasesOf j rest) 0) + unreleasedOf j rest
+abbrev pub unreleased_of : ℕ → List Entry → ℕ
+unreleased_of j [] = 0
+unreleased_of j (e ∷ rest) = num (claim_of j e && eqb (releases_of j rest) 0) + unreleased_of j rest
 
 -- The latest successful claim of job j is by m, and no successful release of it came after.
 pub record LatestClaim (log : List Entry) (j m : ℕ) : Type 0 where
@@ -77,11 +77,11 @@ pub record LatestClaim (log : List Entry) (j m : ℕ) : Type 0 where
   pub after : List Entry
   pub in_order : log ≡ before ++ entry ∷ after
   pub claimed : claim_of j entry ≡ true
-  pub member : memberOf entry.event ≡ m
+  pub member : member_of entry.event ≡ m
   pub latest : claims_of j after ≡ 0
-  pub unreleased : releasesOf j after ≡ 0
+  pub unreleased : releases_of j after ≡ 0
 
 -- ---- how many of the first n jobs p says yes of
-unfoldable pub howMany : (ℕ → Bool) → ℕ → ℕ
-howMany p zero = 0
-howMany p (suc n) = num (p n) + howMany p n
+unfoldable pub how_many : (ℕ → Bool) → ℕ → ℕ
+how_many p zero = 0
+how_many p (suc n) = num (p n) + how_many p n

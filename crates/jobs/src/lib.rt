@@ -7,8 +7,8 @@
 // The list is three rows that the caller lends, and 6 KB long in all, which is more than a call should have on its stack. Place j of
 // `roles` has the role of job j, or a number above 63 where there is no such job; `marks` has 0 for an open job and any other number
 // for a held one, and `members` who holds it.
-ghost use Rattle.board.specs.Boards.{boardOf};
-ghost use Rattle.jobs.specs.Lists.{jobsOf};
+ghost use Rattle.board.specs.Boards.{board_of};
+ghost use Rattle.jobs.specs.Lists.{jobs_of};
 ghost use Rattle.jobs.specs.Answers.{StartAnswer, ClaimAnswer, ReleaseAnswer, LookAnswer};
 
 use board::Board;
@@ -39,7 +39,7 @@ pub fn start(
     marks: &mut [u8; 1024],
     members: &mut [u32; 1024],
 ) -> u8
-    ensures { StartAnswer listed.now result (jobsOf roles.new marks.new members.new) }
+    ensures { StartAnswer listed.now result (jobs_of roles.new marks.new members.new) }
 {
     clear(roles, marks, members);
     if listed.len() > 1024 {
@@ -68,7 +68,7 @@ pub fn claim_of<'t>(
     member: u32,
     role: u32,
 ) -> u8
-    ensures { ClaimAnswer (boardOf live i.now a.now derives.now derivers.now manager.now rights.now) (jobsOf roles.now marks.old members.old) job member role result (jobsOf roles.now marks.new members.new) }
+    ensures { ClaimAnswer (board_of live i.now a.now derives.now derivers.now manager.now rights.now) (jobs_of roles.now marks.old members.old) job member role result (jobs_of roles.now marks.new members.new) }
 {
     let listed = role_of(roles, job);
     let d = derives_of(live, i, a, derives, derivers, manager, rights, role, listed);
@@ -95,7 +95,7 @@ pub fn claim<'t>(
     member: u32,
     role: u32,
 ) -> u8
-    ensures { ClaimAnswer b (jobsOf roles.now marks.old members.old) job member role result (jobsOf roles.now marks.new members.new) }
+    ensures { ClaimAnswer b (jobs_of roles.now marks.old members.old) job member role result (jobs_of roles.now marks.new members.new) }
 {
     claim_of(
         b.live,
@@ -131,7 +131,7 @@ pub fn release_of<'t>(
     member: u32,
     role: u32,
 ) -> u8
-    ensures { ReleaseAnswer (boardOf live i.now a.now derives.now derivers.now manager.now rights.now) (jobsOf roles.now marks.old members.old) job member role result (jobsOf roles.now marks.new members.new) }
+    ensures { ReleaseAnswer (board_of live i.now a.now derives.now derivers.now manager.now rights.now) (jobs_of roles.now marks.old members.old) job member role result (jobs_of roles.now marks.new members.new) }
 {
     let listed = role_of(roles, job);
     let s = scope_of(live, i, a, derives, derivers, manager, rights, role, listed);
@@ -160,7 +160,7 @@ pub fn release<'t>(
     member: u32,
     role: u32,
 ) -> u8
-    ensures { ReleaseAnswer b (jobsOf roles.now marks.old members.old) job member role result (jobsOf roles.now marks.new members.new) }
+    ensures { ReleaseAnswer b (jobs_of roles.now marks.old members.old) job member role result (jobs_of roles.now marks.new members.new) }
 {
     release_of(
         b.live,
@@ -186,7 +186,7 @@ pub fn look<'t>(
     members: &'t [u32; 1024],
     job: u32,
 ) -> Seen
-    ensures { LookAnswer (jobsOf roles.now marks.now members.now) job result.number result.state }
+    ensures { LookAnswer (jobs_of roles.now marks.now members.now) job result.number result.state }
 {
     if role_of(roles, job) > 63 {
         return Seen {

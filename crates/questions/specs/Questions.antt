@@ -1,7 +1,7 @@
 -- What the four questions about a board answer, as document 01 has them, with the causes of request 3.
 use Rattle.std.specs.Prelude.{◌≡◌, Bool, true, false, ◌↔◌, List, ◌∷◌, ℕ}
 use Rattle.std.specs.Int.Count.{ones}
-use Rattle.sets.specs.Sets.{◌isIn◌}
+use Rattle.sets.specs.Sets.{◌is_in◌}
 use Rattle.hierarchy.specs.Words.{Derives, Scope, OutOfScope, LineManager, Climb}
 use Rattle.board.specs.Boards.{tables_of, SoundBoard}
 use Rattle.board.specs.Asked.{misnamed, Answered}
@@ -19,7 +19,7 @@ Says P said = (said ≡ true) ↔ P
 
 -- yes or no on r, and how many there are in all, whatever the answer on r
 abbrev pub Counts : (ℕ → Type 0) → ℕ → Bool × ℕ → Type 0
-Counts In r said = Says (In r) said.0 × ((set : ℕ) × ((x : ℕ) → (x isIn set) ↔ In x) × (said.1 ≡ ones set))
+Counts In r said = Says (In r) said.0 × ((set : ℕ) × ((x : ℕ) → (x is_in set) ↔ In x) × (said.1 ≡ ones set))
 
 -- beside a yes nothing, beside a no its cause and the role in the way
 pub record Reasons (Out : ℕ → ℕ → Type 0) (said : Bool) (cause way : ℕ) : Type 0 where

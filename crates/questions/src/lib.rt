@@ -4,7 +4,7 @@
 // lent part by part. Those with `_trusting` go on with a board that was just found sound: the answer is the one read off what is lent,
 // whatever that holds.
 ghost use Rattle.hierarchy.specs.First.{First};
-ghost use Rattle.board.specs.Boards.{boardOf};
+ghost use Rattle.board.specs.Boards.{board_of};
 ghost use Rattle.questions.specs.Trusting.{DerivesTrusting, ScopeTrusting, ManagerTrusting, StepsTrusting};
 ghost use Rattle.board.specs.Asked.{misnamed};
 ghost use Rattle.questions.specs.Questions.{DerivesAnswer, ScopeAnswer, ManagerAnswer, StepsAnswer};
@@ -92,7 +92,7 @@ pub fn derives_of<'t>(
     x: u32,
     y: u32,
 ) -> Derived
-    ensures { DerivesAnswer (boardOf live i.now a.now derives.now derivers.now manager.now rights.now) x y result.number result.yes }
+    ensures { DerivesAnswer (board_of live i.now a.now derives.now derivers.now manager.now rights.now) x y result.number result.yes }
 {
     if !sound_of(live, i, a, derives, derivers, manager, rights) {
         return Derived {
@@ -144,7 +144,7 @@ pub fn scope_of<'t>(
     actor: u32,
     r: u32,
 ) -> Scoped
-    ensures { ScopeAnswer (boardOf live i.now a.now derives.now derivers.now manager.now rights.now) actor r result.number result.yes result.count result.cause result.way }
+    ensures { ScopeAnswer (board_of live i.now a.now derives.now derivers.now manager.now rights.now) actor r result.number result.yes result.count result.cause result.way }
 {
     if !sound_of(live, i, a, derives, derivers, manager, rights) {
         return Scoped {

@@ -10,23 +10,23 @@ use native.Mathlib.Omega.{arith}
 use lib.Count.{count_trailing_zeros}
 use lib.Dec.{eqb}
 use borrow.Author.Tests.{eqb-true, eqb-false, eq-eqb, ne_eqb, leb-true, le-leb, lt-leb, not-true}
-use Rattle.sets.specs.Sets.{bit, ◌isIn◌, ◌areIn◌, same?}
-use Rattle.sets.proofs.Bools.{true-or-false, or_cases, or_left, or_right, and_left, and_right, and_both, false-no, lt-or-ge}
-use Rattle.sets.proofs.Digits.{bit-zero}
-use Rattle.sets.proofs.Laws.{same-is, bit-lowest}
-use Rattle.hierarchy.specs.Tables.{Tables, row, hasI, hasA}
+use Rattle.sets.specs.Sets.{bit, ◌is_in◌, ◌are_in◌, same?}
+use Rattle.sets.proofs.Bools.{true_or_false, or_cases, or_left, or_right, and_left, and_right, and_both, false_no, lt_or_ge}
+use Rattle.sets.proofs.Digits.{bit_zero}
+use Rattle.sets.proofs.Laws.{same_is, bit_lowest}
+use Rattle.hierarchy.specs.Tables.{Tables, row, has_i, has_a}
 use Rattle.hierarchy.specs.First.{First}
-use Rattle.hierarchy.proofs.Checks.{and_is, or_is, if-is, not_is, eq_is, same_test}
-use Rattle.hierarchy.proofs.Derive.{edge-entry}
+use Rattle.hierarchy.proofs.Checks.{and_is, or_is, if_is, not_is, eq_is, same_test}
+use Rattle.hierarchy.proofs.Derive.{edge_entry}
 use Rattle.hierarchy.proofs.FirstLaws.{hit, pass, none}
 use Rattle.board.specs.Answers.{plain}
 use Rattle.board.specs.declared.Command.{Command}
 use Rattle.board.specs.declared.answers.Answer.{Answer}
-use Rattle.board.proofs.Rules.{stable, first_done, first-other, first-refused, first_next}
-use Rattle.refusals.specs.Refusals.{Malformed, asSenior, asJunior, needed, Missing, edgeKind, PartsStand, Standing, Lacking, scoped, strictly, InScope, Names, unscoped, byRights, byScope, before}
-use Rattle.refusals.specs.Refusals.{Malformed.no_code, Malformed.no-actor, Malformed.no-role, Malformed.no-junior, Malformed.no_kind, Malformed.no-rights, Standing.role, Standing.edge, Lacking.no_part, Lacking.no_edge}
+use Rattle.board.proofs.Rules.{stable, first_done, first_other, first_refused, first_next}
+use Rattle.refusals.specs.Refusals.{Malformed, as_senior, as_junior, needed, Missing, edge_kind, PartsStand, Standing, Lacking, scoped, strictly, InScope, Names, unscoped, by_rights, by_scope, before}
+use Rattle.refusals.specs.Refusals.{Malformed.no_code, Malformed.no_actor, Malformed.no_role, Malformed.no_junior, Malformed.no_kind, Malformed.no_rights, Standing.role, Standing.edge, Lacking.no_part, Lacking.no_edge}
 use Rattle.refusals.specs.Entitled.{Entitled}
-use Rattle.refusals.proofs.Blaming.{OnEdge, edge-is, names-plain, names-six, strict-asked}
+use Rattle.refusals.proofs.Blaming.{OnEdge, edge_is, names_plain, names_six, strict_asked}
 
 -- ---- row 2
 
@@ -35,114 +35,114 @@ pub ranged : (c : Command) → 1 ≤ c.code → c.code ≤ 7 → c.actor ≤ 63 
     → (OnEdge c → (1 ≤ c.kind) × (c.kind ≤ 3)) → (6 ≤ c.code → c.rights ≤ 31) → Malformed c → ⊥
 ranged c l h a r j k g (no_code (inl w)) = omega arith
 ranged c l h a r j k g (no_code (inr w)) = omega arith
-ranged c l h a r j k g (no-actor w) = omega arith
-ranged c l h a r j k g (no-role w) = omega arith
-ranged c l h a r j k g (no-junior n w) = omega (arith, j ((edge-is c).0 n))
-ranged c l h a r j k g (no_kind n (inl w)) = let q = k ((edge-is c).0 n) in omega arith
-ranged c l h a r j k g (no_kind n (inr w)) = let q = k ((edge-is c).0 n) in omega arith
-ranged c l h a r j k g (no-rights n w) = omega (arith, g (leb-true 6 c.code n))
+ranged c l h a r j k g (no_actor w) = omega arith
+ranged c l h a r j k g (no_role w) = omega arith
+ranged c l h a r j k g (no_junior n w) = omega (arith, j ((edge_is c).0 n))
+ranged c l h a r j k g (no_kind n (inl w)) = let q = k ((edge_is c).0 n) in omega arith
+ranged c l h a r j k g (no_kind n (inr w)) = let q = k ((edge_is c).0 n) in omega arith
+ranged c l h a r j k g (no_rights n w) = omega (arith, g (leb-true 6 c.code n))
 
 -- and the other way round
 module _ (c : Command) (formed : Malformed c → ⊥) where
-  pub code-low : 1 ≤ c.code
-  code-low = ⊎_elim (λ l. absurd (formed (no_code (inl l)))) (λ g. g) (lt-or-ge c.code 1)
+  pub code_low : 1 ≤ c.code
+  code_low = ⊎_elim (λ l. absurd (formed (no_code (inl l)))) (λ g. g) (lt_or_ge c.code 1)
 
-  pub actor-lt : c.actor < 64
-  actor-lt = ⊎_elim (λ l. l) (λ g. absurd (formed (no-actor g))) (lt-or-ge c.actor 64)
+  pub actor_lt : c.actor < 64
+  actor_lt = ⊎_elim (λ l. l) (λ g. absurd (formed (no_actor g))) (lt_or_ge c.actor 64)
 
-  pub role-lt : c.role < 64
-  role-lt = ⊎_elim (λ l. l) (λ g. absurd (formed (no-role g))) (lt-or-ge c.role 64)
+  pub role_lt : c.role < 64
+  role_lt = ⊎_elim (λ l. l) (λ g. absurd (formed (no_role g))) (lt_or_ge c.role 64)
 
-  pub junior-lt : OnEdge c → c.junior < 64
-  junior-lt n = ⊎_elim (λ l. l) (λ g. absurd (formed (no-junior ((edge-is c).1 n) g))) (lt-or-ge c.junior 64)
+  pub junior_lt : OnEdge c → c.junior < 64
+  junior_lt n = ⊎_elim (λ l. l) (λ g. absurd (formed (no_junior ((edge_is c).1 n) g))) (lt_or_ge c.junior 64)
 
-  pub code-high : c.code ≤ 7
-  code-high = ⊎_elim (λ l. absurd (formed (no_code (inr l)))) (λ g. g) (lt-or-ge 7 c.code)
+  pub code_high : c.code ≤ 7
+  code_high = ⊎_elim (λ l. absurd (formed (no_code (inr l)))) (λ g. g) (lt_or_ge 7 c.code)
 
-  pub rights-lt : 6 ≤ c.code → c.rights < 32
-  rights-lt n = ⊎_elim (λ l. l) (λ g. absurd (formed (no-rights (le-leb 6 c.code n) g))) (lt-or-ge c.rights 32)
+  pub rights_lt : 6 ≤ c.code → c.rights < 32
+  rights_lt n = ⊎_elim (λ l. l) (λ g. absurd (formed (no_rights (le-leb 6 c.code n) g))) (lt_or_ge c.rights 32)
 
   -- ---- row 6: whose scope is asked for
 
   module _ (x : ℕ) where
-    pub scoped-1 : c.code ≡ 1 → asSenior c x ≡ scoped c x
+    pub scoped_1 : c.code ≡ 1 → as_senior c x ≡ scoped c x
     unfolding scoped
-    scoped-1 e = rw e (sym (or-false (asSenior c x)))
+    scoped_1 e = rw e (sym (or-false (as_senior c x)))
 
-    pub scoped-2 : c.code ≡ 2 → bit 0 x ≡ scoped c x
+    pub scoped_2 : c.code ≡ 2 → bit 0 x ≡ scoped c x
     unfolding scoped
-    scoped-2 e = rw (e, bit-zero x)
+    scoped_2 e = rw (e, bit_zero x)
 
-    pub scoped-3 : OnEdge c → (same? c.role x || same? c.junior x) ≡ scoped c x
+    pub scoped_3 : OnEdge c → (same? c.role x || same? c.junior x) ≡ scoped c x
     unfolding scoped
-    scoped-3 n =
-        rw (same-is c.role x role-lt, same-is c.junior x (junior-lt n), ne_eqb c.code 1 (λ e. omega (arith, n.0, e)), le-leb 3 c.code n.0, le-leb c.code 5 n.1)
+    scoped_3 n =
+        rw (same_is c.role x role_lt, same_is c.junior x (junior_lt n), ne_eqb c.code 1 (λ e. omega (arith, n.0, e)), le-leb 3 c.code n.0, le-leb c.code 5 n.1)
 
-    pub scoped-6 : 6 ≤ c.code → same? c.role x ≡ scoped c x
+    pub scoped_6 : 6 ≤ c.code → same? c.role x ≡ scoped c x
     unfolding scoped
-    scoped-6 n =
-        rw (same-is c.role x role-lt, ne_eqb c.code 1 (λ e. omega (arith, n, e)), le-leb 3 c.code (omega (arith, n)), lt-leb c.code 5 n) (sym (or-false (eqb x c.role)))
+    scoped_6 n =
+        rw (same_is c.role x role_lt, ne_eqb c.code 1 (λ e. omega (arith, n, e)), le-leb 3 c.code (omega (arith, n)), lt-leb c.code 5 n) (sym (or-false (eqb x c.role)))
 
-    pub strictly-1 : c.code ≡ 1 → asJunior c x ≡ strictly c x
+    pub strictly_1 : c.code ≡ 1 → as_junior c x ≡ strictly c x
     unfolding strictly
-    strictly-1 e = rw e (sym (or-false (asJunior c x)))
+    strictly_1 e = rw e (sym (or-false (as_junior c x)))
 
-    pub strictly-2 : c.code ≡ 2 → same? c.role x ≡ strictly c x
+    pub strictly_2 : c.code ≡ 2 → same? c.role x ≡ strictly c x
     unfolding strictly
-    strictly-2 e = rw (e, same-is c.role x role-lt)
+    strictly_2 e = rw (e, same_is c.role x role_lt)
 
-    pub strictly-3 : c.code ≢ 1 → c.code ≢ 2 → bit 0 x ≡ strictly c x
+    pub strictly_3 : c.code ≢ 1 → c.code ≢ 2 → bit 0 x ≡ strictly c x
     unfolding strictly
-    strictly-3 n1 n2 = rw (ne_eqb c.code 1 n1, ne_eqb c.code 2 n2, bit-zero x)
+    strictly_3 n1 n2 = rw (ne_eqb c.code 1 n1, ne_eqb c.code 2 n2, bit_zero x)
 
     -- ---- row 3: these and the actor must exist
 
-    needed-1 : c.code ≡ 1 → ((asSenior c x || asJunior c x) || eqb x c.actor) ≡ needed c x
+    needed_1 : c.code ≡ 1 → ((as_senior c x || as_junior c x) || eqb x c.actor) ≡ needed c x
     unfolding needed
-    needed-1 e = rw (e, or-false (asSenior c x || asJunior c x)) (or_comm (asSenior c x || asJunior c x) (eqb x c.actor))
+    needed_1 e = rw (e, or-false (as_senior c x || as_junior c x)) (or_comm (as_senior c x || as_junior c x) (eqb x c.actor))
 
-    needed-2 : c.code ≡ 2 → (eqb x c.role || eqb x c.actor) ≡ needed c x
+    needed_2 : c.code ≡ 2 → (eqb x c.role || eqb x c.actor) ≡ needed c x
     unfolding needed
-    needed-2 e = rw (e, or-false (eqb x c.role)) (or_comm (eqb x c.role) (eqb x c.actor))
+    needed_2 e = rw (e, or-false (eqb x c.role)) (or_comm (eqb x c.role) (eqb x c.actor))
 
-    needed-3 : OnEdge c → ((eqb x c.role || eqb x c.junior) || eqb x c.actor) ≡ needed c x
+    needed_3 : OnEdge c → ((eqb x c.role || eqb x c.junior) || eqb x c.actor) ≡ needed c x
     unfolding needed
-    needed-3 n =
+    needed_3 n =
         rw (ne_eqb c.code 1 (λ e. omega (arith, n.0, e)), le-leb 3 c.code n.0, le-leb c.code 5 n.1, le-leb 2 c.code (omega (arith, n.0))) (or_comm (eqb x c.role || eqb x c.junior) (eqb x c.actor))
 
-    needed-6 : 6 ≤ c.code → (eqb x c.role || eqb x c.actor) ≡ needed c x
+    needed_6 : 6 ≤ c.code → (eqb x c.role || eqb x c.actor) ≡ needed c x
     unfolding needed
-    needed-6 n =
+    needed_6 n =
         rw (ne_eqb c.code 1 (λ e. omega (arith, n, e)), le-leb 3 c.code (omega (arith, n)), lt-leb c.code 5 n, le-leb 2 c.code (omega (arith, n)), or-false (eqb x c.role)) (or_comm (eqb x c.role) (eqb x c.actor))
 
-    pub needed-is : ((scoped c x || strictly c x) || same? c.actor x) ≡ needed c x
-    needed-is = ⊎_elim
-        (λ k. let e = eqb-true c.code 1 k in rw (← scoped-1 e, ← strictly-1 e, same-is c.actor x actor-lt) (needed-1 e))
+    pub needed_is : ((scoped c x || strictly c x) || same? c.actor x) ≡ needed c x
+    needed_is = ⊎_elim
+        (λ k. let e = eqb-true c.code 1 k in rw (← scoped_1 e, ← strictly_1 e, same_is c.actor x actor_lt) (needed_1 e))
         (λ k. ⊎_elim
         (λ m. let e = eqb-true c.code 2 m in
-        rw (← scoped-2 e, ← strictly-2 e, bit-zero x, same-is c.actor x actor-lt, same-is c.role x role-lt) (needed-2 e))
+        rw (← scoped_2 e, ← strictly_2 e, bit_zero x, same_is c.actor x actor_lt, same_is c.role x role_lt) (needed_2 e))
         (λ m.
         let n1 = eqb-false c.code 1 k in
         let n2 = eqb-false c.code 2 m in ⊎_elim
-        (λ six. rw (← scoped-6 six, ← strictly-3 n1 n2, bit-zero x, or-false (same? c.role x), same-is c.actor x actor-lt, same-is c.role x role-lt) (needed-6 six))
+        (λ six. rw (← scoped_6 six, ← strictly_3 n1 n2, bit_zero x, or-false (same? c.role x), same_is c.actor x actor_lt, same_is c.role x role_lt) (needed_6 six))
         (λ five.
-        let edge : OnEdge c = (omega (arith, code-low), five) in
-        rw (← scoped-3 edge, ← strictly-3 n1 n2, bit-zero x, or-false (same? c.role x || same? c.junior x), same-is c.actor x actor-lt, same-is c.role x role-lt, same-is c.junior x (junior-lt edge)) (needed-3 edge))
-        (lt-or-ge 5 c.code))
-        (true-or-false (eqb c.code 2)))
-        (true-or-false (eqb c.code 1))
+        let edge : OnEdge c = (omega (arith, code_low), five) in
+        rw (← scoped_3 edge, ← strictly_3 n1 n2, bit_zero x, or-false (same? c.role x || same? c.junior x), same_is c.actor x actor_lt, same_is c.role x role_lt, same_is c.junior x (junior_lt edge)) (needed_3 edge))
+        (lt_or_ge 5 c.code))
+        (true_or_false (eqb c.code 2)))
+        (true_or_false (eqb c.code 1))
 
 -- a set that is not 0 has a member
-pub some-member : (d : ℕ) → d < 2 ^ 64 → (not (eqb d 0) ≡ true) ↔ ((x : ℕ) × (x isIn d))
-some-member d h = (
-  λ e. (count_trailing_zeros 64 d, bit-lowest 64 d (let n = eqb-false d 0 (not-true (eqb d 0) e) in omega arith) h),
-  λ w. ap not (ne_eqb d 0 (λ z. false-no (bit-zero w.0) (subst (λ (k : ℕ). w.0 isIn k) z w.1))),
+pub some_member : (d : ℕ) → d < 2 ^ 64 → (not (eqb d 0) ≡ true) ↔ ((x : ℕ) × (x is_in d))
+some_member d h = (
+  λ e. (count_trailing_zeros 64 d, bit_lowest 64 d (let n = eqb-false d 0 (not-true (eqb d 0) e) in omega arith) h),
+  λ w. ap not (ne_eqb d 0 (λ z. false_no (bit_zero w.0) (subst (λ (k : ℕ). w.0 is_in k) z w.1))),
 )
 
 -- the members of the first that the second lacks
-pub missing-is : (c : Command) (n d live : ℕ) → d < 2 ^ 64 → ((x : ℕ) → bit n x ≡ needed c x) → ((x : ℕ) → bit d x ≡ (bit n x && not (bit live x)))
+pub missing_is : (c : Command) (n d live : ℕ) → d < 2 ^ 64 → ((x : ℕ) → bit n x ≡ needed c x) → ((x : ℕ) → bit d x ≡ (bit n x && not (bit live x)))
     → (not (eqb d 0) ≡ true) ↔ ((x : ℕ) × (needed c x ≡ true) × (bit live x ≡ false))
-missing-is c n d live h hn hd = Iff.trans (some-member d h) (
+missing_is c n d live h hn hd = Iff.trans (some_member d h) (
   λ w.
       let e = sym (hd w.0) ∙ w.1 in (
         w.0,
@@ -153,17 +153,17 @@ missing-is c n d live h hn hd = Iff.trans (some-member d h) (
 )
 
 -- the scope condition, by the sets of those asked for
-pub within-is : (scope : ℕ) (c : Command) (u s w : ℕ) → (Malformed c → ⊥) → ((x : ℕ) → bit u x ≡ scoped c x) → ((x : ℕ) → bit s x ≡ strictly c x)
-    → ((x : ℕ) → bit w x ≡ (bit scope x && not (same? c.actor x))) → u areIn scope → (s areIn w) ↔ InScope (λ a x. x isIn scope) c
-within-is scope c u s w formed hu hs hw p =
-    let asked = strict-asked scope c.actor w (actor-lt c formed) hw in (
+pub within_is : (scope : ℕ) (c : Command) (u s w : ℕ) → (Malformed c → ⊥) → ((x : ℕ) → bit u x ≡ scoped c x) → ((x : ℕ) → bit s x ≡ strictly c x)
+    → ((x : ℕ) → bit w x ≡ (bit scope x && not (same? c.actor x))) → u are_in scope → (s are_in w) ↔ InScope (λ a x. x is_in scope) c
+within_is scope c u s w formed hu hs hw p =
+    let asked = strict_asked scope c.actor w (actor_lt c formed) hw in (
       λ q. record { scope = λ x e. p x (hu x ∙ e); strict = λ x e. let m = (asked x).0 (q x (hs x ∙ e)) in (m.0, m.1 refl) },
       λ r x e. let m = r.strict x (sym (hs x) ∙ e) in (asked x).1 (m.0, λ _. m.1),
     )
 
 -- the scope condition by two relations that agree on the actor
-pub in-scope-alike : {In In' : ℕ → ℕ → Type 0} (c : Command) → ((x : ℕ) → In c.actor x ↔ In' c.actor x) → InScope In c ↔ InScope In' c
-in-scope-alike c h = (
+pub in_scope_alike : {In In' : ℕ → ℕ → Type 0} (c : Command) → ((x : ℕ) → In c.actor x ↔ In' c.actor x) → InScope In c ↔ InScope In' c
+in_scope_alike c h = (
   λ s. record { scope = λ x e. (h x).0 (s.scope x e); strict = λ x e. let m = s.strict x e in ((h x).0 m.0, m.1) },
   λ s. record { scope = λ x e. (h x).1 (s.scope x e); strict = λ x e. let m = s.strict x e in ((h x).1 m.0, m.1) },
 )
@@ -181,76 +181,76 @@ module _ (code m n : ℕ) (p q : Bool) where
   pub picks_second : code ≡ n → n ≢ m → q ≡ picked
   picks_second e d = rw (e, eq-eqb n n refl, ne_eqb n m d)
 
-  pub picks-none : code ≢ m → code ≢ n → false ≡ picked
-  picks-none d e = rw (ne_eqb code m d, ne_eqb code n e)
+  pub picks_none : code ≢ m → code ≢ n → false ≡ picked
+  picks_none d e = rw (ne_eqb code m d, ne_eqb code n e)
 
 -- ---- the rows as the table says them
 
 module _ (b : Tables) (c : Command) where
-  pub missing-row : {r : Bool} → (r ≡ true) ↔ ((x : ℕ) × (needed c x ≡ true) × (bit b.live x ≡ false)) → (r ≡ true) ↔ Missing b c
-  missing-row h = Iff.trans h (λ w. record { who = w.0; is-needed = w.1; absent = w.2 }, λ m. (m.who, m.is-needed, m.absent))
+  pub missing_row : {r : Bool} → (r ≡ true) ↔ ((x : ℕ) × (needed c x ≡ true) × (bit b.live x ≡ false)) → (r ≡ true) ↔ Missing b c
+  missing_row h = Iff.trans h (λ w. record { who = w.0; is_needed = w.1; absent = w.2 }, λ m. (m.who, m.is_needed, m.absent))
 
-  pub edge_row : {linked : Bool} → linked ≡ (bit (row b.i c.role) c.junior || bit (row b.a c.role) c.junior) → (linked ≡ true) ↔ (edgeKind b c ≢ 0)
+  pub edge_row : {linked : Bool} → linked ≡ (bit (row b.i c.role) c.junior || bit (row b.a c.role) c.junior) → (linked ≡ true) ↔ (edge_kind b c ≢ 0)
   edge_row h =
-      let e = edge-entry b c.role c.junior in
+      let e = edge_entry b c.role c.junior in
       let i = bit (row b.i c.role) c.junior in
       let a = bit (row b.a c.role) c.junior in
       (λ t. e.1 (or_cases i a (sym h ∙ t)), λ n. h ∙ ⊎_elim (or_left i a) (or_right i a) (e.0 n))
 
-  pub parts-row : {parts : Bool}
-      → parts ≡ ((not (hasI c.kind) || bit (row b.i c.role) c.junior) && (not (hasA c.kind) || bit (row b.a c.role) c.junior))
+  pub parts_row : {parts : Bool}
+      → parts ≡ ((not (has_i c.kind) || bit (row b.i c.role) c.junior) && (not (has_a c.kind) || bit (row b.a c.role) c.junior))
       → (parts ≡ true) ↔ PartsStand b c
-  parts-row h = same_test h (Iff.trans (and_is (if-is Iff.rfl Iff.rfl) (λ _. if-is Iff.rfl Iff.rfl)) (λ w. record { i = w.0; a = w.1 }, λ s. (s.i, s.a)))
+  parts_row h = same_test h (Iff.trans (and_is (if_is Iff.rfl Iff.rfl) (λ _. if_is Iff.rfl Iff.rfl)) (λ w. record { i = w.0; a = w.1 }, λ s. (s.i, s.a)))
 
   module _ {parts : Bool} (stand : (parts ≡ true) ↔ PartsStand b c) where
-    pub standing-row : {r : Bool} → r ≡ ((eqb c.code 1 && bit b.live c.role) || (eqb c.code 3 && parts)) → (r ≡ true) ↔ Standing b c
-    standing-row h = same_test h (Iff.trans (or_is (and_is (eq_is c.code 1) (λ _. Iff.rfl)) (and_is (eq_is c.code 3) (λ _. stand))) (
+    pub standing_row : {r : Bool} → r ≡ ((eqb c.code 1 && bit b.live c.role) || (eqb c.code 3 && parts)) → (r ≡ true) ↔ Standing b c
+    standing_row h = same_test h (Iff.trans (or_is (and_is (eq_is c.code 1) (λ _. Iff.rfl)) (and_is (eq_is c.code 3) (λ _. stand))) (
       ⊎_elim (λ w. role w.0 w.1) (λ w. edge w.0 w.1),
       rows,
     ))
       where
-        rows : Standing b c → ((c.code ≡ 1) × (c.role isIn b.live)) ⊎ ((c.code ≡ 3) × PartsStand b c)
+        rows : Standing b c → ((c.code ≡ 1) × (c.role is_in b.live)) ⊎ ((c.code ≡ 3) × PartsStand b c)
         rows (role e m) = inl (e, m)
         rows (edge e n) = inr (e, n)
 
-    pub lacking-row : {linked r : Bool} → (linked ≡ true) ↔ (edgeKind b c ≢ 0) → r ≡ ((eqb c.code 4 && not parts) || (eqb c.code 5 && not linked)) → (r ≡ true) ↔ Lacking b c
-    lacking-row is h = same_test h (Iff.trans (or_is (and_is (eq_is c.code 4) (λ _. not_is stand)) (and_is (eq_is c.code 5) (λ _. not_is is))) (
-      ⊎_elim (λ w. no_part w.0 w.1) (λ w. no_edge w.0 (stable (ℕ_discrete (edgeKind b c) 0) w.1)),
+    pub lacking_row : {linked r : Bool} → (linked ≡ true) ↔ (edge_kind b c ≢ 0) → r ≡ ((eqb c.code 4 && not parts) || (eqb c.code 5 && not linked)) → (r ≡ true) ↔ Lacking b c
+    lacking_row is h = same_test h (Iff.trans (or_is (and_is (eq_is c.code 4) (λ _. not_is stand)) (and_is (eq_is c.code 5) (λ _. not_is is))) (
+      ⊎_elim (λ w. no_part w.0 w.1) (λ w. no_edge w.0 (stable (ℕ_discrete (edge_kind b c) 0) w.1)),
       rows,
     ))
       where
-        rows : Lacking b c → ((c.code ≡ 4) × (PartsStand b c → ⊥)) ⊎ ((c.code ≡ 5) × ((edgeKind b c ≢ 0) → ⊥))
+        rows : Lacking b c → ((c.code ≡ 4) × (PartsStand b c → ⊥)) ⊎ ((c.code ≡ 5) × ((edge_kind b c ≢ 0) → ⊥))
         rows (no_part e n) = inl (e, n)
         rows (no_edge e z) = inr (e, λ k. k z)
 
 -- ---- the rows on the board handed in
 
 module _ (b : Tables) (c : Command) where
-  pub refused-2 : Malformed c → First (unscoped b c) 2
-  refused-2 m = hit _ _ _ m
+  pub refused_2 : Malformed c → First (unscoped b c) 2
+  refused_2 m = hit _ _ _ m
 
   module _ (formed : Malformed c → ⊥) where
-    pub refused-3 : Missing b c → First (unscoped b c) 3
-    refused-3 m = pass _ _ _ _ formed (hit _ _ _ m)
+    pub refused_3 : Missing b c → First (unscoped b c) 3
+    refused_3 m = pass _ _ _ _ formed (hit _ _ _ m)
 
     module _ (present : Missing b c → ⊥) where
-      pub refused-4 : Standing b c → First (unscoped b c) 4
-      refused-4 s = pass _ _ _ _ formed (pass _ _ _ _ present (hit _ _ _ s))
+      pub refused_4 : Standing b c → First (unscoped b c) 4
+      refused_4 s = pass _ _ _ _ formed (pass _ _ _ _ present (hit _ _ _ s))
 
       module _ (free : Standing b c → ⊥) where
-        pub refused-5 : Lacking b c → First (unscoped b c) 5
-        refused-5 n = pass _ _ _ _ formed (pass _ _ _ _ present (pass _ _ _ _ free (hit _ _ _ n)))
+        pub refused_5 : Lacking b c → First (unscoped b c) 5
+        refused_5 n = pass _ _ _ _ formed (pass _ _ _ _ present (pass _ _ _ _ free (hit _ _ _ n)))
 
-        pub refused-not : (Lacking b c → ⊥) → First (unscoped b c) 0
-        refused-not there = pass _ _ _ _ formed (pass _ _ _ _ present (pass _ _ _ _ free (pass _ _ _ _ there none)))
+        pub refused_not : (Lacking b c → ⊥) → First (unscoped b c) 0
+        refused_not there = pass _ _ _ _ formed (pass _ _ _ _ present (pass _ _ _ _ free (pass _ _ _ _ there none)))
 
 -- row 6, with whom it names
 module _ (In : ℕ → ℕ → Type 0) (Blame : Answer → Type 0) (c : Command) {m : Answer} where
-  pub scope-holds : InScope In c → m ≡ plain 0 → First (byScope In c) m.number × Names Blame m
-  scope-holds s e = subst (λ (k : Answer). First (byScope In c) k.number × Names Blame k) (sym e) (pass _ _ _ _ (λ k. k s) none, names-plain 0 (λ q. omega arith))
+  pub scope_holds : InScope In c → m ≡ plain 0 → First (by_scope In c) m.number × Names Blame m
+  scope_holds s e = subst (λ (k : Answer). First (by_scope In c) k.number × Names Blame k) (sym e) (pass _ _ _ _ (λ k. k s) none, names_plain 0 (λ q. omega arith))
 
-  pub scope-fails : (InScope In c → ⊥) → (m.number ≡ 6) × Blame m → First (byScope In c) m.number × Names Blame m
-  scope-fails n q = (subst (First (byScope In c)) (sym q.0) (hit _ _ _ n), names-six q.0 q.1)
+  pub scope_fails : (InScope In c → ⊥) → (m.number ≡ 6) × Blame m → First (by_scope In c) m.number × Names Blame m
+  scope_fails n q = (subst (First (by_scope In c)) (sym q.0) (hit _ _ _ n), names_six q.0 q.1)
 
 -- the rows on the board handed in, one after the other
 module _ (Derive In : ℕ → ℕ → Type 0) (Blame : Answer → Type 0) (t : Tables) (rights : List ℕ) (c : Command) where
@@ -261,17 +261,17 @@ module _ (Derive In : ℕ → ℕ → Type 0) (Blame : Answer → Type 0) (t : T
   Down m = First (before Derive In t rights c) m.number × Names Blame m
 
   plainly : (n : ℕ) → n ≢ 6 → First (before Derive In t rights c) n → {m : Answer} → m ≡ plain n → Down m
-  plainly n d f is = subst (λ (m : Answer). Down m) (sym is) (f, names-plain n d)
+  plainly n d f is = subst (λ (m : Answer). Down m) (sym is) (f, names_plain n d)
 
-  pub down-early : (n : ℕ) → n ≢ 0 → First early n → {m : Answer} → m ≡ plain n → Down m
-  down-early n h f = plainly n (first-other 6 early refl n f) (first-refused early _ n h f)
+  pub down_early : (n : ℕ) → n ≢ 0 → First early n → {m : Answer} → m ≡ plain n → Down m
+  down_early n h f = plainly n (first_other 6 early refl n f) (first_refused early _ n h f)
 
   module _ (k : ℕ) (short : k ≡ 0) (fine : First early k) where
-    past-early : (n : ℕ) → First (byRights Derive rights c ++ byScope In c) n → First (before Derive In t rights c) n
-    past-early n f = first_next early _ n (first_done early refl (subst (First early) short fine)) f
+    past_early : (n : ℕ) → First (by_rights Derive rights c ++ by_scope In c) n → First (before Derive In t rights c) n
+    past_early n f = first_next early _ n (first_done early refl (subst (First early) short fine)) f
 
-    pub down-unentitled : (Entitled Derive rights c → ⊥) → {m : Answer} → m ≡ plain 13 → Down m
-    down-unentitled n = plainly 13 (λ e. omega arith) (past-early 13 (hit _ _ _ n))
+    pub down_unentitled : (Entitled Derive rights c → ⊥) → {m : Answer} → m ≡ plain 13 → Down m
+    down_unentitled n = plainly 13 (λ e. omega arith) (past_early 13 (hit _ _ _ n))
 
-    pub down-scope : Entitled Derive rights c → {m : Answer} → First (byScope In c) m.number × Names Blame m → Down m
-    down-scope right {m} f = (past-early m.number (pass _ _ _ _ (λ k. k right) f.0), f.1)
+    pub down_scope : Entitled Derive rights c → {m : Answer} → First (by_scope In c) m.number × Names Blame m → Down m
+    down_scope right {m} f = (past_early m.number (pass _ _ _ _ (λ k. k right) f.0), f.1)

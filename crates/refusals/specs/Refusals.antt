@@ -1,88 +1,88 @@
 -- Document 01's rows 2 to 6 for a command, with rows 2, 4 and 5 as request 2 has them and row 13 by request 4; and by request 3, who
 -- offends and why.
 use Rattle.std.specs.Prelude.{◌≡◌, Bool, true, false, ◌&&◌, ◌||◌, ◌⊎◌, ◌≢◌, List, [], ◌∷◌, ◌++◌, ℕ, ◌^◌, ◌≤◌, ◌<◌, eqb, leb}
-use Rattle.sets.specs.Sets.{bit, ◌isIn◌}
-use Rattle.hierarchy.specs.Tables.{Tables, row, kind, hasI, hasA}
+use Rattle.sets.specs.Sets.{bit, ◌is_in◌}
+use Rattle.hierarchy.specs.Tables.{Tables, row, kind, has_i, has_a}
 use Rattle.board.specs.Answers.{plain}
 use Rattle.board.specs.declared.Command.{Command}
 use Rattle.board.specs.declared.answers.Answer.{Answer}
-use Rattle.refusals.specs.Entitled.{namesRights, Entitled}
+use Rattle.refusals.specs.Entitled.{names_rights, Entitled}
 
 -- ---- the fields that a command uses
 
 -- commands 3, 4 and 5 name a senior (in `role`), a junior and a kind
-abbrev pub namesEdge : Command → Bool
-namesEdge c = leb 3 c.code && leb c.code 5
+abbrev pub names_edge : Command → Bool
+names_edge c = leb 3 c.code && leb c.code 5
 
 -- no set that it names has a member above 63: its type says so of each command of the code
 pub record Fits (c : Command) : Type 0 where
-  pub a-seniors : c.a_seniors < 2 ^ 64
-  pub i-seniors : c.i_seniors < 2 ^ 64
-  pub a-juniors : c.a_juniors < 2 ^ 64
-  pub i-juniors : c.i_juniors < 2 ^ 64
+  pub a_seniors : c.a_seniors < 2 ^ 64
+  pub i_seniors : c.i_seniors < 2 ^ 64
+  pub a_juniors : c.a_juniors < 2 ^ 64
+  pub i_juniors : c.i_juniors < 2 ^ 64
 
 -- ---- row 2: a number out of its range, in a field that is used
 
 pub data Malformed (c : Command) : Type 0 where
   no_code : (c.code < 1) ⊎ (7 < c.code) → Malformed c
-  no-actor : 63 < c.actor → Malformed c
-  no-role : 63 < c.role → Malformed c
-  no-junior : namesEdge c ≡ true → 63 < c.junior → Malformed c
-  no_kind : namesEdge c ≡ true → (c.kind < 1) ⊎ (3 < c.kind) → Malformed c
-  no-rights : namesRights c ≡ true → 31 < c.rights → Malformed c
+  no_actor : 63 < c.actor → Malformed c
+  no_role : 63 < c.role → Malformed c
+  no_junior : names_edge c ≡ true → 63 < c.junior → Malformed c
+  no_kind : names_edge c ≡ true → (c.kind < 1) ⊎ (3 < c.kind) → Malformed c
+  no_rights : names_rights c ≡ true → 31 < c.rights → Malformed c
 
 -- ---- row 3: a role that must exist isn't live
 
 -- whether x is among the seniors that command 1 names, by A or by I; and among the juniors
-abbrev pub asSenior : Command → ℕ → Bool
-asSenior c x = bit c.a_seniors x || bit c.i_seniors x
+abbrev pub as_senior : Command → ℕ → Bool
+as_senior c x = bit c.a_seniors x || bit c.i_seniors x
 
-abbrev pub asJunior : Command → ℕ → Bool
-asJunior c x = bit c.a_juniors x || bit c.i_juniors x
+abbrev pub as_junior : Command → ℕ → Bool
+as_junior c x = bit c.a_juniors x || bit c.i_juniors x
 
 -- whether x must exist: the actor; for command 1 each set's members; for the others the role; for an edge its junior
 unfoldable pub needed : Command → ℕ → Bool
 needed c x =
     eqb x c.actor
-    || ((eqb c.code 1 && (asSenior c x || asJunior c x))
-    || ((leb 2 c.code && eqb x c.role) || (namesEdge c && eqb x c.junior)))
+    || ((eqb c.code 1 && (as_senior c x || as_junior c x))
+    || ((leb 2 c.code && eqb x c.role) || (names_edge c && eqb x c.junior)))
 
 -- one that must exist and does not
 pub record Missing (t : Tables) (c : Command) : Type 0 where
   pub who : ℕ
-  pub is-needed : needed c who ≡ true
+  pub is_needed : needed c who ≡ true
   pub absent : bit t.live who ≡ false
 
 -- ---- rows 4 and 5, an edge taken by its parts as request 2 has it
 
 -- the kind of the edge that the command names, 0 where there is none
-abbrev pub edgeKind : Tables → Command → ℕ
-edgeKind t c = kind t c.role c.junior
+abbrev pub edge_kind : Tables → Command → ℕ
+edge_kind t c = kind t c.role c.junior
 
 -- every part of the kind that the command names stands between its senior and its junior
 pub record PartsStand (t : Tables) (c : Command) : Type 0 where
-  pub i : hasI c.kind ≡ true → c.junior isIn row t.i c.role
-  pub a : hasA c.kind ≡ true → c.junior isIn row t.a c.role
+  pub i : has_i c.kind ≡ true → c.junior is_in row t.i c.role
+  pub a : has_a c.kind ≡ true → c.junior is_in row t.a c.role
 
 -- what is to be added is there: the new role, or every part of the edge
 pub data Standing (t : Tables) (c : Command) : Type 0 where
-  role : c.code ≡ 1 → c.role isIn t.live → Standing t c
+  role : c.code ≡ 1 → c.role is_in t.live → Standing t c
   edge : c.code ≡ 3 → PartsStand t c → Standing t c
 
 -- what is to go or to change is missing: a part that a removal names, or an edge, of whatever kind, to change
 pub data Lacking (t : Tables) (c : Command) : Type 0 where
   no_part : c.code ≡ 4 → (PartsStand t c → ⊥) → Lacking t c
-  no_edge : c.code ≡ 5 → edgeKind t c ≡ 0 → Lacking t c
+  no_edge : c.code ≡ 5 → edge_kind t c ≡ 0 → Lacking t c
 
 -- ---- row 6: the column "Scope condition before"
 
 -- who must be in the actor's scope: command 1's seniors, the two ends of an edge, the role whose rights are given or taken
 unfoldable pub scoped : Command → ℕ → Bool
-scoped c x = (eqb c.code 1 && asSenior c x) || ((leb 3 c.code && eqb x c.role) || (namesEdge c && eqb x c.junior))
+scoped c x = (eqb c.code 1 && as_senior c x) || ((leb 3 c.code && eqb x c.role) || (names_edge c && eqb x c.junior))
 
 -- who must be in its strict scope: command 1's juniors, command 2's role
 unfoldable pub strictly : Command → ℕ → Bool
-strictly c x = (eqb c.code 1 && asJunior c x) || (eqb c.code 2 && eqb x c.role)
+strictly c x = (eqb c.code 1 && as_junior c x) || (eqb c.code 2 && eqb x c.role)
 
 -- `In a x` says that x is in the scope of a: document 01's word in its own table, what was worked out of it in another's. Strict scope
 -- leaves out the actor itself.
@@ -97,7 +97,7 @@ pub record InScope (In : ℕ → ℕ → Type 0) (c : Command) : Type 0 where
 abbrev pub conditions : Command → List ((ℕ → Bool) × Bool)
 conditions c =
     (λ x. leb 2 c.code && eqb x c.role, eqb c.code 2)
-    ∷ (λ x. namesEdge c && eqb x c.junior, false)
+    ∷ (λ x. names_edge c && eqb x c.junior, false)
     ∷ (λ x. eqb c.code 1 && bit c.a_seniors x, false)
     ∷ (λ x. eqb c.code 1 && bit c.i_seniors x, false)
     ∷ (λ x. eqb c.code 1 && bit c.a_juniors x, true)
@@ -150,11 +150,11 @@ unscoped t c =
     ∷ []
 
 -- by what deriving and scope mean there: no right, and out of scope
-abbrev pub byRights : (ℕ → ℕ → Type 0) → List ℕ → Command → List (ℕ × Type 0)
-byRights Derive rights c = (13, (Entitled Derive rights c → ⊥)) ∷ []
+abbrev pub by_rights : (ℕ → ℕ → Type 0) → List ℕ → Command → List (ℕ × Type 0)
+by_rights Derive rights c = (13, (Entitled Derive rights c → ⊥)) ∷ []
 
-abbrev pub byScope : (ℕ → ℕ → Type 0) → Command → List (ℕ × Type 0)
-byScope In c = (6, (InScope In c → ⊥)) ∷ []
+abbrev pub by_scope : (ℕ → ℕ → Type 0) → Command → List (ℕ × Type 0)
+by_scope In c = (6, (InScope In c → ⊥)) ∷ []
 
 abbrev pub before : (Derive In : ℕ → ℕ → Type 0) → Tables → List ℕ → Command → List (ℕ × Type 0)
-before Derive In t rights c = unscoped t c ++ byRights Derive rights c ++ byScope In c
+before Derive In t rights c = unscoped t c ++ by_rights Derive rights c ++ by_scope In c

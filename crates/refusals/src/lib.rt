@@ -4,10 +4,10 @@ mod rights;
 
 ghost use Rattle.std.specs.Prelude.{◌≡◌, true, false, not, ◌&&◌, ◌||◌, ◌↔◌, ◌≢◌, ℕ, ◌<◌, eqb};
 ghost use Rattle.hierarchy.specs.First.{First};
-ghost use Rattle.hierarchy.specs.Tables.{tables, row, hasI, hasA};
+ghost use Rattle.hierarchy.specs.Tables.{tables, row, has_i, has_a};
 ghost use Rattle.hierarchy.specs.Views.{ScopeBy};
-ghost use Rattle.sets.specs.Sets.{bit, ◌isIn◌, LowestRole};
-ghost use Rattle.refusals.specs.Refusals.{Malformed, needed, scoped, strictly, InScope, conditions, Offends, Names, unscoped, byScope, before};
+ghost use Rattle.sets.specs.Sets.{bit, ◌is_in◌, LowestRole};
+ghost use Rattle.refusals.specs.Refusals.{Malformed, needed, scoped, strictly, InScope, conditions, Offends, Names, unscoped, by_scope, before};
 ghost use Rattle.refusals.specs.Trusting.{DerivesBy, BlamesBy};
 
 use board::Command;
@@ -119,7 +119,7 @@ fn part_stands(kind: u32, own: u32, row: u64, junior: usize) -> bool
 // Whether every part of the command's kind stands on its edge.
 fn parts_stand<'t>(i: &'t [u64; 64], a: &'t [u64; 64], c: Command) -> bool
     requires { Malformed c → ⊥ }
-    ensures { result ≡ ((not (hasI c.kind) || bit (row i.now c.role) c.junior) && (not (hasA c.kind) || bit (row a.now c.role) c.junior)) }
+    ensures { result ≡ ((not (has_i c.kind) || bit (row i.now c.role) c.junior) && (not (has_a c.kind) || bit (row a.now c.role) c.junior)) }
 {
     let senior = c.role as usize;
     let junior = c.junior as usize;
@@ -158,7 +158,7 @@ fn lacking(c: Command, parts: bool, edge: bool) -> bool
 // Not 6: all are in the actor's scope that must be, `scope` being that.
 fn within_scope(scope: u64, c: Command) -> bool
     requires { Malformed c → ⊥ }
-    ensures { (result ≡ true) ↔ InScope (λ a x. x isIn scope) c }
+    ensures { (result ≡ true) ↔ InScope (λ a x. x is_in scope) c }
 {
     if !within(in_scope(c), scope) {
         return false;
@@ -179,8 +179,8 @@ fn lowest_of(these: u64, strict: bool) -> Offender
 
 // Who offends first of those that a new role is to have as seniors and juniors.
 fn offending_member(all: u64, c: Command) -> Offender
-    requires { (Malformed c → ⊥) × ((c.code ≡ 1) × (InScope (λ a x. x isIn all) c → ⊥)) }
-    ensures { (result.role < 64) × Offends (λ a x. x isIn all) c.actor (conditions c) result.role result.strict }
+    requires { (Malformed c → ⊥) × ((c.code ≡ 1) × (InScope (λ a x. x is_in all) c → ⊥)) }
+    ensures { (result.role < 64) × Offends (λ a x. x is_in all) c.actor (conditions c) result.role result.strict }
 {
     let by_a = minus(c.a_seniors, all);
     if by_a != 0 {
@@ -200,8 +200,8 @@ fn offending_member(all: u64, c: Command) -> Offender
 
 // Who offends first of a role named by itself, or of the ends of an edge.
 fn offending_end(all: u64, c: Command) -> Offender
-    requires { (Malformed c → ⊥) × ((c.code ≢ 1) × (InScope (λ a x. x isIn all) c → ⊥)) }
-    ensures { (result.role < 64) × Offends (λ a x. x isIn all) c.actor (conditions c) result.role result.strict }
+    requires { (Malformed c → ⊥) × ((c.code ≢ 1) × (InScope (λ a x. x is_in all) c → ⊥)) }
+    ensures { (result.role < 64) × Offends (λ a x. x is_in all) c.actor (conditions c) result.role result.strict }
 {
     let role = c.role as usize;
     let junior = c.junior as usize;
@@ -222,8 +222,8 @@ fn offending_end(all: u64, c: Command) -> Offender
 
 // Who offends first. `all` is the actor's scope.
 fn offending(all: u64, c: Command) -> Offender
-    requires { (Malformed c → ⊥) × (InScope (λ a x. x isIn all) c → ⊥) }
-    ensures { (result.role < 64) × Offends (λ a x. x isIn all) c.actor (conditions c) result.role result.strict }
+    requires { (Malformed c → ⊥) × (InScope (λ a x. x is_in all) c → ⊥) }
+    ensures { (result.role < 64) × Offends (λ a x. x is_in all) c.actor (conditions c) result.role result.strict }
 {
     if c.code == 1 {
         return offending_member(all, c);
@@ -233,7 +233,7 @@ fn offending(all: u64, c: Command) -> Offender
 
 // 6: who offends first, and why. `all` is the actor's scope.
 fn blame<'v>(down: &'v [u64; 64], up: &'v [u64; 64], all: u64, c: Command) -> Answer
-    requires { (Malformed c → ⊥) × (((x : ℕ) → (x isIn all) ↔ ScopeBy down.now up.now c.actor x) × (InScope (λ a x. x isIn all) c → ⊥)) }
+    requires { (Malformed c → ⊥) × (((x : ℕ) → (x is_in all) ↔ ScopeBy down.now up.now c.actor x) × (InScope (λ a x. x is_in all) c → ⊥)) }
     ensures { (result.number ≡ 6) × BlamesBy down.now up.now c result }
 {
     let o = offending(all, c);
@@ -279,7 +279,7 @@ fn refused_2_to_5<'t>(live: u64, i: &'t [u64; 64], a: &'t [u64; 64], c: Command)
 // The refusal by scope, with whom it names: who offends is looked for only where somebody does.
 fn refused_by_scope<'v>(down: &'v [u64; 64], up: &'v [u64; 64], c: Command) -> Answer
     requires { Malformed c → ⊥ }
-    ensures { First (byScope (ScopeBy down.now up.now) c) result.number × Names (BlamesBy down.now up.now c) result }
+    ensures { First (by_scope (ScopeBy down.now up.now) c) result.number × Names (BlamesBy down.now up.now c) result }
 {
     let all = scope(down, up, c.actor as usize);
     if within_scope(all, c) {

@@ -1,6 +1,6 @@
 // Who may use a right. A byte of rights is a set, with the right of command 1 as its lowest member.
 ghost use Rattle.std.specs.Prelude.{◌≡◌, true, ◌↔◌, ℕ};
-ghost use Rattle.sets.specs.Sets.{bit, ◌isIn◌};
+ghost use Rattle.sets.specs.Sets.{bit, ◌is_in◌};
 ghost use Rattle.refusals.specs.Refusals.{Malformed};
 ghost use Rattle.refusals.specs.Trusting.{DerivesBy};
 ghost use Rattle.refusals.specs.Entitled.{asks, Entitled};
@@ -12,7 +12,7 @@ use sets::{Pick, but_lowest, lowest, single, union, with, within};
 
 // The rights that these roles hold among them.
 fn held_among(rights: &[u8; 64], roles: u64) -> u64
-    ensures { (k : ℕ) → (k isIn result) ↔ HeldAmong rights.now roles k }
+    ensures { (k : ℕ) → (k is_in result) ↔ HeldAmong rights.now roles k }
 {
     whole_row(*rights);
     let mut all: u64 = 0;

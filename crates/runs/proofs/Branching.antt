@@ -23,6 +23,6 @@ module _
       → (T (not y) → Seq K 𝓛 Γ (runs C Λ E b q)) → Seq K 𝓛 Γ (runs C Λ E (seq (cond c a skip) b) q)
   guards t o held failed = first t $ branches t o held (λ z. skips t $ record { prf = (failed z).prf })
 
-  pub goes-round : K → {c : Operand} {n : ℕ} {b : Body} {y : Bool} → Opd K 𝓛 Γ E c (vbool y)
+  pub goes_round : K → {c : Operand} {n : ℕ} {b : Body} {y : Bool} → Opd K 𝓛 Γ E c (vbool y)
       → (T y → Seq K 𝓛 Γ (runs C Λ E b q)) → (T (not y) → Seq K 𝓛 Γ (prop (post 𝓤 H q (exits n)))) → Seq K 𝓛 Γ (runs C Λ E (seq (cond c skip (exit n)) b) q)
-  goes-round t o held failed = first t $ branches t o (λ z. skips t $ record { prf = (held z).prf }) (λ z. jumps t $ record { prf = (failed z).prf })
+  goes_round t o held failed = first t $ branches t o (λ z. skips t $ record { prf = (held z).prf }) (λ z. jumps t $ record { prf = (failed z).prf })

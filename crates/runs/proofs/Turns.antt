@@ -14,7 +14,7 @@ use Rattle.board.specs.declared.answers.Answer.{Answer}
 use Rattle.commands.specs.Commands.{Decided}
 use Rattle.answers.specs.Packing.{answer_of}
 use Rattle.runs.specs.Runs.{Went, RunAnswer, EveningAnswer}
-use Rattle.runs.proofs.Running.{begins, goes_on, too_short, all-given}
+use Rattle.runs.proofs.Running.{begins, goes_on, too_short, all_given}
 
 -- a command, for what lies past the end
 abbrev pub nobody : Command
@@ -56,7 +56,7 @@ module _ (b : Board) (commands : List Command) (entry : List ℕ) where
 
   -- the loop is left
   pub over : length commands ≤ length entry → (s : State) → length commands ≤ s.k → RunAnswer b commands entry s.row 0 s.board
-  over room s all = all-given (length commands) (length entry) room (subst (λ (l : List Command). Went b l entry s.row s.board) (take_all s.k commands all) s.went)
+  over room s all = all_given (length commands) (length entry) room (subst (λ (l : List Command). Went b l entry s.row s.board) (take_all s.k commands all) s.went)
 
 -- The same by value: the first k of n commands have been given, and there is a place for each.
 pub record Halfway (b : Board) (commands : List Command) (n : ℕ) (row : List ℕ) (board : Board) (k : ℕ) : Type 0 where
@@ -64,17 +64,17 @@ pub record Halfway (b : Board) (commands : List Command) (n : ℕ) (row : List �
   pub enough : n ≤ 64
   pub went : Went b (take k commands) (replicate 64 0) row board
 
-pub evening-too-long : (b : Board) (commands : List Command) {n : ℕ} {row : List ℕ} → 64 < n → row ≡ replicate 64 0 → EveningAnswer b commands n row 12 b
-evening-too-long b commands {n} lt e = subst (λ (l : List ℕ). EveningAnswer b commands n l 12 b) (sym e) (too_short b (take n commands) (replicate 64 0) lt)
+pub evening_too_long : (b : Board) (commands : List Command) {n : ℕ} {row : List ℕ} → 64 < n → row ≡ replicate 64 0 → EveningAnswer b commands n row 12 b
+evening_too_long b commands {n} lt e = subst (λ (l : List ℕ). EveningAnswer b commands n l 12 b) (sym e) (too_short b (take n commands) (replicate 64 0) lt)
 
 -- it begins with a row without answers,
-pub halfway-begins : (b : Board) (commands : List Command) {n : ℕ} {row : List ℕ} → n ≤ 64 → row ≡ replicate 64 0 → Halfway b commands n row b 0
-halfway-begins b commands le e = record { within = zero-le; enough = le; went = subst (λ (l : List ℕ). Went b (take 0 commands) (replicate 64 0) l b) (sym e) (begins b commands (replicate 64 0)) }
+pub halfway_begins : (b : Board) (commands : List Command) {n : ℕ} {row : List ℕ} → n ≤ 64 → row ≡ replicate 64 0 → Halfway b commands n row b 0
+halfway_begins b commands le e = record { within = zero-le; enough = le; went = subst (λ (l : List ℕ). Went b (take 0 commands) (replicate 64 0) l b) (sym e) (begins b commands (replicate 64 0)) }
 
 -- goes on by a command,
-pub halfway-on : {b h next : Board} (commands : List Command) {n : ℕ} {row : List ℕ} {k packed : ℕ} {a : Answer} (d : Command) → length commands ≡ 64 → k < n → Halfway b commands n row h k
+pub halfway_on : {b h next : Board} (commands : List Command) {n : ℕ} {row : List ℕ} {k packed : ℕ} {a : Answer} (d : Command) → length commands ≡ 64 → k < n → Halfway b commands n row h k
     → Decided h (get_or commands k d) a next → packed ≡ answer_of a 0 0 → Halfway b commands n (set row k packed) next (k + 1)
-halfway-on {b} {next = next} commands {row = row} {k} d all less w e p = record {
+halfway_on {b} {next = next} commands {row = row} {k} d all less w e p = record {
   within = omega (arith, less);
   enough = w.enough;
   went = subst₂ (λ (j m : ℕ). Went b (take j commands) (replicate 64 0) (set row k m) next) {x = suc k} {y = k + 1} (omega arith) (sym p)
@@ -82,8 +82,8 @@ halfway-on {b} {next = next} commands {row = row} {k} d all less w e p = record 
 }
 
 -- and ends when all are given
-pub halfway-over : {b h : Board} {commands : List Command} {n : ℕ} {row : List ℕ} {k : ℕ} → n ≤ k → Halfway b commands n row h k → EveningAnswer b commands n row 0 h
-halfway-over {b} {h} {commands} {n} {row} {k} le w = all-given n 64 w.enough (subst (λ (j : ℕ). Went b (take j commands) (replicate 64 0) row h) same w.went)
+pub halfway_over : {b h : Board} {commands : List Command} {n : ℕ} {row : List ℕ} {k : ℕ} → n ≤ k → Halfway b commands n row h k → EveningAnswer b commands n row 0 h
+halfway_over {b} {h} {commands} {n} {row} {k} le w = all_given n 64 w.enough (subst (λ (j : ℕ). Went b (take j commands) (replicate 64 0) row h) same w.went)
   where
     same : k ≡ n
     same = omega (arith, le, w.within)

@@ -15,18 +15,18 @@ pub data Ran : Board → List Command → List Answer → Board → Type 0 where
       → Decided b c a next → Ran next rest answers last → Ran b (c ∷ rest) (a ∷ answers) last
 
 -- the row afterwards: each answer whole, its own place and value 0, at its command's place of the row; the places beyond the run as they were
-abbrev pub rowAfter : List Answer → List ℕ → List ℕ
-rowAfter answers entry = map (λ (a : Answer). answer_of a 0 0) answers ++ drop (length answers) entry
+abbrev pub row_after : List Answer → List ℕ → List ℕ
+row_after answers entry = map (λ (a : Answer). answer_of a 0 0) answers ++ drop (length answers) entry
 
 -- the run's own refusal, before any command is tried: the row has fewer places than the run has commands
-abbrev pub runRefusals : ℕ → ℕ → List (ℕ × Type 0)
-runRefusals commands places = (12, places < commands) ∷ []
+abbrev pub run_refusals : ℕ → ℕ → List (ℕ × Type 0)
+run_refusals commands places = (12, places < commands) ∷ []
 
 -- what a run leaves of the board b and of a row that held `entry`
 pub record Went (b : Board) (commands : List Command) (entry exit : List ℕ) (board : Board) : Type 0 where
   pub answers : List Answer
   pub ran : Ran b commands answers board
-  pub row : exit ≡ rowAfter answers entry
+  pub row : exit ≡ row_after answers entry
 
 -- done, all commands were given, whatever their answers; refused, none was, and board and row are as they were
 pub record RanBy (rules : List (ℕ × Type 0)) (b : Board) (commands : List Command) (entry exit : List ℕ) (number : ℕ) (board : Board) : Type 0 where
@@ -36,11 +36,11 @@ pub record RanBy (rules : List (ℕ × Type 0)) (b : Board) (commands : List Com
 
 -- on a board and a row that are lent
 abbrev pub RunAnswer : Board → List Command → List ℕ → List ℕ → ℕ → Board → Type 0
-RunAnswer b commands entry = RanBy (runRefusals (length commands) (length entry)) b commands entry
+RunAnswer b commands entry = RanBy (run_refusals (length commands) (length entry)) b commands entry
 
 -- by value: the first n of 64 commands, with a row of 64 places of its own, each 0 before
 abbrev pub EveningAnswer : Board → List Command → ℕ → List ℕ → ℕ → Board → Type 0
-EveningAnswer b commands n = RanBy (runRefusals n 64) b (take n commands) (replicate 64 0)
+EveningAnswer b commands n = RanBy (run_refusals n 64) b (take n commands) (replicate 64 0)
 
 -- ---- what the theorems on runs say
 
@@ -64,5 +64,5 @@ pub record InItsPlace (b : Board) (first : List Command) (c : Command) (rest : L
   pub begun : Ran b first early before
   pub decided : Decided before c answer after
   pub ended : Ran after rest late last
-  pub row : exit ≡ rowAfter (early ++ answer ∷ late) entry
+  pub row : exit ≡ row_after (early ++ answer ∷ late) entry
   pub place : get_or exit (length first) 0 ≡ answer_of answer 0 0

@@ -4,7 +4,7 @@
 pub mod kinds;
 
 ghost use Rattle.std.specs.Prelude.{◌≡◌, true, ◌↔◌, ℕ, ◌<◌};
-ghost use Rattle.sets.specs.Sets.{◌isIn◌};
+ghost use Rattle.sets.specs.Sets.{◌is_in◌};
 ghost use Rattle.hierarchy.specs.Views.{ScopeBy, BarBy};
 
 use hierarchy::shape::whole;
@@ -40,7 +40,7 @@ fn related<'v>(down: &'v [u64; 64], up: &'v [u64; 64], a: usize, r: usize) -> bo
 // The scope of a.
 fn scope_of<'v>(down: &'v [u64; 64], up: &'v [u64; 64], a: usize) -> u64
     requires { a < 64 }
-    ensures { (r : ℕ) → (r isIn result) ↔ ScopeBy down.now up.now a r }
+    ensures { (r : ℕ) → (r is_in result) ↔ ScopeBy down.now up.now a r }
 {
     let mut found: u64 = 0;
     let mut rest = down[a];
@@ -95,7 +95,7 @@ pub fn in_scope<'v>(down: &'v [u64; 64], up: &'v [u64; 64], a: usize, r: usize) 
 
 // The scope of a, as a set.
 pub fn scope<'v>(down: &'v [u64; 64], up: &'v [u64; 64], a: usize) -> u64
-    ensures { (r : ℕ) → (r isIn result) ↔ ScopeBy down.now up.now a r }
+    ensures { (r : ℕ) → (r is_in result) ↔ ScopeBy down.now up.now a r }
 {
     if a < 64 {
         return scope_of(down, up, a);

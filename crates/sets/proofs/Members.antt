@@ -4,59 +4,59 @@ use mathlib.Core.Bool.{Bool, false, not, ◌&&◌, and-true}
 use mathlib.Core.Logic.{◌⊎◌, inl, inr, ⊎_elim}
 use Prim.Native.Nat.{ℕ, ◌<◌}
 use lib.Count.{ones}
-use Rattle.sets.specs.Sets.{bit, ◌isIn◌, ◌areIn◌, same?, LowestRole, NoRole, Lowest, ButLowest}
+use Rattle.sets.specs.Sets.{bit, ◌is_in◌, ◌are_in◌, same?, LowestRole, NoRole, Lowest, ButLowest}
 use Rattle.sets.specs.declared.Pick.{Pick}
 use Rattle.sets.specs.declared.Pick.TheVariants.{Role, Nobody}
-use Rattle.sets.proofs.Bools.{true-or-false, and_left, and_both}
-use Rattle.sets.proofs.Laws.{same-eq, ones-less}
+use Rattle.sets.proofs.Bools.{true_or_false, and_left, and_both}
+use Rattle.sets.proofs.Laws.{same_eq, ones_less}
 
 -- one turn: the role x of rest goes
 pub record Drawn (rest x rest' : ℕ) : Type 0 where
   pub role : x < 64
-  pub member : x isIn rest
-  pub rest-is : (y : ℕ) → bit rest' y ≡ (bit rest y && not (same? x y))
+  pub member : x is_in rest
+  pub rest_is : (y : ℕ) → bit rest' y ≡ (bit rest y && not (same? x y))
 
 module _ {rest x rest' : ℕ} (t : Drawn rest x rest') where
-  pub drawn-less : ones rest' < ones rest
-  drawn-less = ones-less rest rest' x t.role t.member t.rest-is
+  pub drawn_less : ones rest' < ones rest
+  drawn_less = ones_less rest rest' x t.role t.member t.rest_is
 
-  pub drawn-part : rest' areIn rest
-  drawn-part y e = and_left (bit rest y) (not (same? x y)) (sym (t.rest-is y) ∙ e)
+  pub drawn_part : rest' are_in rest
+  drawn_part y e = and_left (bit rest y) (not (same? x y)) (sym (t.rest_is y) ∙ e)
 
   -- what is left out of rest' was left out of rest, or is x
-  pub drawn-cases : (y : ℕ) → bit rest' y ≡ false → (bit rest y ≡ false) ⊎ (y ≡ x)
-  drawn-cases y e = ⊎_elim
-      (λ s. inr (same-eq x y s))
-      (λ n. inl (sym (t.rest-is y ∙ ap (λ (p : Bool). bit rest y && not p) n ∙ and-true (bit rest y)) ∙ e))
-      (true-or-false (same? x y))
+  pub drawn_cases : (y : ℕ) → bit rest' y ≡ false → (bit rest y ≡ false) ⊎ (y ≡ x)
+  drawn_cases y e = ⊎_elim
+      (λ s. inr (same_eq x y s))
+      (λ n. inl (sym (t.rest_is y ∙ ap (λ (p : Bool). bit rest y && not p) n ∙ and-true (bit rest y)) ∙ e))
+      (true_or_false (same? x y))
 
   -- what was in rest is in rest', or is x
-  pub drawn-kept : (y : ℕ) → y isIn rest → (y isIn rest') ⊎ (y ≡ x)
-  drawn-kept y e = ⊎_elim
-      (λ s. inr (same-eq x y s))
-      (λ n. inl (t.rest-is y ∙ and_both (bit rest y) (not (same? x y)) e (ap not n)))
-      (true-or-false (same? x y))
+  pub drawn_kept : (y : ℕ) → y is_in rest → (y is_in rest') ⊎ (y ≡ x)
+  drawn_kept y e = ⊎_elim
+      (λ s. inr (same_eq x y s))
+      (λ n. inl (t.rest_is y ∙ and_both (bit rest y) (not (same? x y)) e (ap not n)))
+      (true_or_false (same? x y))
 
 -- the same where x is the lowest role of rest
 pub record Taken (rest x rest' : ℕ) : Type 0 where
   pub lowest : LowestRole rest x
-  pub rest-is : (y : ℕ) → bit rest' y ≡ (bit rest y && not (same? x y))
+  pub rest_is : (y : ℕ) → bit rest' y ≡ (bit rest y && not (same? x y))
 
 module _ {rest x rest' : ℕ} (t : Taken rest x rest') where
   pub drawn : Drawn rest x rest'
-  drawn = record { role = t.lowest.role; member = t.lowest.member; rest-is = t.rest-is }
+  drawn = record { role = t.lowest.role; member = t.lowest.member; rest_is = t.rest_is }
 
-  pub taken-less : ones rest' < ones rest
-  taken-less = drawn-less drawn
+  pub taken_less : ones rest' < ones rest
+  taken_less = drawn_less drawn
 
-  pub taken-part : rest' areIn rest
-  taken-part = drawn-part drawn
+  pub taken_part : rest' are_in rest
+  taken_part = drawn_part drawn
 
-  pub taken-kept : (y : ℕ) → y isIn rest → (y isIn rest') ⊎ (y ≡ x)
-  taken-kept = drawn-kept drawn
+  pub taken_kept : (y : ℕ) → y is_in rest → (y is_in rest') ⊎ (y ≡ x)
+  taken_kept = drawn_kept drawn
 
-pub taken-by : {rest x rest' : ℕ} → LowestRole rest x → ButLowest rest rest' → Taken rest x rest'
-taken-by {x = x} l b = record { lowest = l; rest-is = b.rest x l }
+pub taken_by : {rest x rest' : ℕ} → LowestRole rest x → ButLowest rest rest' → Taken rest x rest'
+taken_by {x = x} l b = record { lowest = l; rest_is = b.rest x l }
 
 -- what the answer of `lowest` says, by its two cases
 pub picked : {s r : ℕ} {p : Pick} → p ≡ Role r → Lowest s p → LowestRole s r

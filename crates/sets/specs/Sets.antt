@@ -7,14 +7,14 @@ use Rattle.sets.specs.declared.Pick.TheVariants.{Role, Nobody}
 unfoldable pub bit : ℕ → ℕ → Bool
 bit s r = eqb (s / 2 ^ r % 2) 1
 
-infix 4 ◌isIn◌
-abbrev pub ◌isIn◌ : ℕ → ℕ → Type 0
-r isIn s = bit s r ≡ true
+infix 4 ◌is_in◌
+abbrev pub ◌is_in◌ : ℕ → ℕ → Type 0
+r is_in s = bit s r ≡ true
 
 -- every role of s is in t
-infix 4 ◌areIn◌
-abbrev pub ◌areIn◌ : ℕ → ℕ → Type 0
-s areIn t = (x : ℕ) → x isIn s → x isIn t
+infix 4 ◌are_in◌
+abbrev pub ◌are_in◌ : ℕ → ℕ → Type 0
+s are_in t = (x : ℕ) → x is_in s → x is_in t
 
 -- whether x is the role r; a number above 63 is no role
 unfoldable pub same? : ℕ → ℕ → Bool
@@ -31,14 +31,14 @@ digits zero f = 0
 digits (suc k) f = digits k (λ i. f (suc i)) * 2 + num (f 0)
 
 -- the set of the roles of which f is true
-unfoldable pub setOf : (ℕ → Bool) → ℕ
-setOf f = digits 64 f
+unfoldable pub set_of : (ℕ → Bool) → ℕ
+set_of f = digits 64 f
 
 -- r is the lowest role of s
 pub record LowestRole (s r : ℕ) : Type 0 where
   pub role : r < 64
-  pub member : r isIn s
-  pub least : (x : ℕ) → x isIn s → r ≤ x
+  pub member : r is_in s
+  pub least : (x : ℕ) → x is_in s → r ≤ x
 
 -- s has no role
 pub record NoRole (s : ℕ) : Type 0 where
@@ -57,8 +57,8 @@ pub record ButLowest (s t : ℕ) : Type 0 where
 -- r is the highest role of s
 pub record HighestRole (s r : ℕ) : Type 0 where
   pub role : r < 64
-  pub member : r isIn s
-  pub most : (x : ℕ) → x isIn s → x ≤ r
+  pub member : r is_in s
+  pub most : (x : ℕ) → x is_in s → x ≤ r
 
 -- the highest role of s, or nobody where s has none
 abbrev pub Highest : ℕ → Pick → Type 0

@@ -1,10 +1,10 @@
 // Sets of roles. A role is a number from 0 to 63, and a set is a u64 with bit r set where role r is in it. Knows
 // nothing else.
 // Every function takes any number for a role: one above 63 is in no set, and adding or removing it changes nothing.
-// What a function gives is said member by member, for every number x; two sets with the same members are equal (`same-members`).
+// What a function gives is said member by member, for every number x; two sets with the same members are equal (`same_members`).
 ghost use Rattle.std.specs.Prelude.{◌≡◌, true, false, not, ◌&&◌, ◌||◌, ◌↔◌, ℕ};
 ghost use Rattle.std.specs.Int.Count.{ones};
-ghost use Rattle.sets.specs.Sets.{bit, same?, ◌areIn◌, Lowest, ButLowest, Highest};
+ghost use Rattle.sets.specs.Sets.{bit, same?, ◌are_in◌, Lowest, ButLowest, Highest};
 
 // One role of several, or nobody: a caller has to meet both.
 #[derive(Drop)]
@@ -70,7 +70,7 @@ pub fn without(s: u64, r: usize) -> u64
 
 // Whether every role of s is in t.
 pub fn within(s: u64, t: u64) -> bool
-    ensures { (result ≡ true) ↔ (s areIn t) }
+    ensures { (result ≡ true) ↔ (s are_in t) }
 {
     minus(s, t) == 0
 }

@@ -9,29 +9,29 @@ use native.Mathlib.Numerals.{add-one}
 use native.Mathlib.Omega.{arith}
 use lib.ListN.{length, get_or, take, drop, length-take, length-drop, drop_of_length-le}
 use lib.Seq.{drop-cons}
-use Rattle.wording.specs.Texts.{separates, piece, longer, pieces, filled, word_at, beginnings, wordStart}
+use Rattle.wording.specs.Texts.{separates, piece, longer, pieces, filled, word_at, beginnings, word_start}
 
 -- ---- where a piece ends
 
 abbrev pub end_of : ℕ → List ℕ → ℕ → ℕ
 end_of sep text from = from + length (piece sep (drop from text))
 
-pub end-over : (sep : ℕ) (text : List ℕ) (at : ℕ) → length text ≤ at → end_of sep text at ≡ at
+pub end_over : (sep : ℕ) (text : List ℕ) (at : ℕ) → length text ≤ at → end_of sep text at ≡ at
 unfolding piece
-end-over sep text at h = rw (drop_of_length-le text h) (omega arith)
+end_over sep text at h = rw (drop_of_length-le text h) (omega arith)
 
-pub end-turn : (sep : ℕ) (text : List ℕ) (at : ℕ) → at < length text → end_of sep text at ≡ cond (separates sep (get_or text at 0)) at (end_of sep text (at + 1))
+pub end_turn : (sep : ℕ) (text : List ℕ) (at : ℕ) → at < length text → end_of sep text at ≡ cond (separates sep (get_or text at 0)) at (end_of sep text (at + 1))
 unfolding piece
-end-turn sep text at h = rw (drop-cons text at 0 h, add-one at) (go (separates sep (get_or text at 0)) (piece sep (drop (suc at) text)))
+end_turn sep text at h = rw (drop-cons text at 0 h, add-one at) (go (separates sep (get_or text at 0)) (piece sep (drop (suc at) text)))
   where
     go : (p : Bool) (rest : List ℕ) → at + length (cond p [] (get_or text at 0 ∷ rest)) ≡ cond p at (suc at + length rest)
     go true rest = omega arith
     go false rest = omega arith
 
-piece-within : (sep : ℕ) (l : List ℕ) → length (piece sep l) ≤ length l
+piece_within : (sep : ℕ) (l : List ℕ) → length (piece sep l) ≤ length l
 unfolding piece
-piece-within sep [] = zero-le
-piece-within sep (b ∷ rest) = go (separates sep b) (piece-within sep rest)
+piece_within sep [] = zero-le
+piece_within sep (b ∷ rest) = go (separates sep b) (piece_within sep rest)
   where
     go : (p : Bool) → length (piece sep rest) ≤ length rest → length (cond p [] (b ∷ piece sep rest)) ≤ suc (length rest)
     go true h = zero-le
@@ -61,12 +61,12 @@ first_piece sep (b ∷ rest) = go (separates sep b) (first_piece sep rest)
     go true ih = refl
     go false ih = rw ih
 
-next-piece : (sep : ℕ) (l : List ℕ) (from : ℕ) → from ≤ length l
+next_piece : (sep : ℕ) (l : List ℕ) (from : ℕ) → from ≤ length l
     → rest_of sep l from ≡ take (length (piece sep (drop from l))) (drop from l) ∷ rest_of sep l (suc (end_of sep l from))
 unfolding rest_of
-next-piece sep l zero h = rw zero-add (first_piece sep l)
-next-piece sep [] (suc from) h = absurd (not-suc-le-zero h)
-next-piece sep (b ∷ rest) (suc from) h = rw suc-add (next-piece sep rest from (le_of_suc-le-suc h))
+next_piece sep l zero h = rw zero-add (first_piece sep l)
+next_piece sep [] (suc from) h = absurd (not-suc-le-zero h)
+next_piece sep (b ∷ rest) (suc from) h = rw suc-add (next_piece sep rest from (le_of_suc-le-suc h))
 
 -- the piece from `from` to `end`, in the text
 pub record Turn (sep : ℕ) (text : List ℕ) (from end : ℕ) : Type 0 where
@@ -77,8 +77,8 @@ pub record Turn (sep : ℕ) (text : List ℕ) (from end : ℕ) : Type 0 where
 pub turn : (sep : ℕ) (text : List ℕ) (from end : ℕ) → from ≤ length text → end ≡ end_of sep text from → Turn sep text from end
 turn sep text from end h e = record {
   low = omega arith;
-  high = omega (arith, piece-within sep (drop from text), length-drop from text);
-  cut = next-piece sep text from h ∙ rw (past, reach);
+  high = omega (arith, piece_within sep (drop from text), length-drop from text);
+  cut = next_piece sep text from h ∙ rw (past, reach);
 }
   where
     reach : length (piece sep (drop from text)) ≡ end - from
@@ -89,42 +89,42 @@ turn sep text from end h e = record {
 
 -- ---- the words of a line
 
-filled-some : (p : List ℕ) (ps : List (List ℕ)) → 0 < length p → filled (p ∷ ps) ≡ p ∷ filled ps
+filled_some : (p : List ℕ) (ps : List (List ℕ)) → 0 < length p → filled (p ∷ ps) ≡ p ∷ filled ps
 unfolding filled
-filled-some [] ps h = absurd (not-suc-le-zero h)
-filled-some (b ∷ p) ps h = refl
+filled_some [] ps h = absurd (not-suc-le-zero h)
+filled_some (b ∷ p) ps h = refl
 
-begins-some : (at : ℕ) (p : List ℕ) (ps : List (List ℕ)) → 0 < length p → beginnings at (p ∷ ps) ≡ at ∷ beginnings (at + length p + 1) ps
+begins_some : (at : ℕ) (p : List ℕ) (ps : List (List ℕ)) → 0 < length p → beginnings at (p ∷ ps) ≡ at ∷ beginnings (at + length p + 1) ps
 unfolding beginnings
-begins-some at [] ps h = absurd (not-suc-le-zero h)
-begins-some at (b ∷ p) ps h = refl
+begins_some at [] ps h = absurd (not-suc-le-zero h)
+begins_some at (b ∷ p) ps h = refl
 
 -- the word at k of the line is the one at `left` of what lies from `from` on
 pub record Looking (line : List ℕ) (k left from : ℕ) : Type 0 where
   pub within : from ≤ length line + 1
   pub same : get_or (filled (rest_of 32 line from)) left [] ≡ word_at line k
-  pub begins : get_or (beginnings from (rest_of 32 line from)) left 0 ≡ wordStart line k
+  pub begins : get_or (beginnings from (rest_of 32 line from)) left 0 ≡ word_start line k
 
-pub look-start : (line : List ℕ) (k : ℕ) → Looking line k k 0
+pub look_start : (line : List ℕ) (k : ℕ) → Looking line k k 0
 unfolding rest_of
-look-start line k = record { within = zero-le; same = refl; begins = refl }
+look_start line k = record { within = zero-le; same = refl; begins = refl }
 
 module _ {line : List ℕ} {k left from : ℕ} (l : Looking line k left from) where
-  pub look-over : length line < from → ([] ≡ word_at line k) × (0 ≡ wordStart line k)
+  pub look_over : length line < from → ([] ≡ word_at line k) × (0 ≡ word_start line k)
   unfolding filled beginnings
-  look-over h = (rw (rest_over 32 line from h) at l.same, rw (rest_over 32 line from h) at l.begins)
+  look_over h = (rw (rest_over 32 line from h) at l.same, rw (rest_over 32 line from h) at l.begins)
 
   module _ {end : ℕ} (t : Turn 32 line from end) where
-    none-begins : end ≤ from → beginnings from (rest_of 32 line from) ≡ beginnings (end + 1) (rest_of 32 line (end + 1))
+    none_begins : end ≤ from → beginnings from (rest_of 32 line from) ≡ beginnings (end + 1) (rest_of 32 line (end + 1))
     unfolding beginnings
-    none-begins h =
+    none_begins h =
         let none : end - from ≡ 0 = omega arith in
         let next : from + 1 ≡ end + 1 = omega arith in
         ap (beginnings from) t.cut ∙ rw none (ap (λ (n : ℕ). beginnings n (rest_of 32 line (end + 1))) next)
 
     pub look_none : end ≤ from → Looking line k left (end + 1)
     unfolding filled
-    look_none h = record { within = omega arith; same = rw (t.cut, none) at l.same; begins = rw (none-begins h) at l.begins }
+    look_none h = record { within = omega arith; same = rw (t.cut, none) at l.same; begins = rw (none_begins h) at l.begins }
       where
         none : end - from ≡ 0
         none = omega arith
@@ -134,20 +134,20 @@ module _ {line : List ℕ} {k left from : ℕ} (l : Looking line k left from) wh
     long = simp (length-take, length-drop) (omega arith)
 
     some : from < end → filled (rest_of 32 line from) ≡ take (end - from) (drop from line) ∷ filled (rest_of 32 line (end + 1))
-    some h = ap filled t.cut ∙ filled-some (take (end - from) (drop from line)) (rest_of 32 line (end + 1)) (omega (arith, long))
+    some h = ap filled t.cut ∙ filled_some (take (end - from) (drop from line)) (rest_of 32 line (end + 1)) (omega (arith, long))
 
-    some-begins : from < end → beginnings from (rest_of 32 line from) ≡ from ∷ beginnings (end + 1) (rest_of 32 line (end + 1))
-    some-begins h =
+    some_begins : from < end → beginnings from (rest_of 32 line from) ≡ from ∷ beginnings (end + 1) (rest_of 32 line (end + 1))
+    some_begins h =
         let next : from + length (take (end - from) (drop from line)) + 1 ≡ end + 1 = omega (arith, long) in
         ap (beginnings from) t.cut
-        ∙ begins-some from (take (end - from) (drop from line)) (rest_of 32 line (end + 1)) (omega (arith, long))
+        ∙ begins_some from (take (end - from) (drop from line)) (rest_of 32 line (end + 1)) (omega (arith, long))
         ∙ ap (λ (n : ℕ). from ∷ beginnings n (rest_of 32 line (end + 1))) next
 
-    pub look-here : from < end → left ≡ 0 → (take (end - from) (drop from line) ≡ word_at line k) × (from ≡ wordStart line k)
-    look-here h z = (rw (some h, z) at l.same, rw (some-begins h, z) at l.begins)
+    pub look_here : from < end → left ≡ 0 → (take (end - from) (drop from line) ≡ word_at line k) × (from ≡ word_start line k)
+    look_here h z = (rw (some h, z) at l.same, rw (some_begins h, z) at l.begins)
 
-    pub look-past : from < end → (left ≡ 0 → ⊥) → Looking line k (left - 1) (end + 1)
-    look-past h z = record { within = omega arith; same = rw (some h, more) at l.same; begins = rw (some-begins h, more) at l.begins }
+    pub look_past : from < end → (left ≡ 0 → ⊥) → Looking line k (left - 1) (end + 1)
+    look_past h z = record { within = omega arith; same = rw (some h, more) at l.same; begins = rw (some_begins h, more) at l.begins }
       where
         more : left ≡ suc (left - 1)
         more = omega arith

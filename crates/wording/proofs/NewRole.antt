@@ -7,8 +7,8 @@ use native.Mathlib.Omega.{arith}
 use lib.ListN.{length}
 use borrow.Author.Tests.{eq-eqb, ne_eqb, le-leb, lt-leb}
 use Rattle.wording.specs.Texts.{word_at}
-use Rattle.wording.specs.Names.{optionOf, members_of}
-use Rattle.wording.specs.Meanings.{asked, set_at, withSet, setsFrom, ends_at}
+use Rattle.wording.specs.Names.{option_of, members_of}
+use Rattle.wording.specs.Meanings.{asked, set_at, with_set, sets_from, ends_at}
 use Rattle.wording.specs.declared.Meaning.{Meaning}
 use Rattle.wording.specs.declared.Meaning.TheVariants.{Means, Wrong}
 use Rattle.wording.specs.declared.Sets.{Sets}
@@ -19,12 +19,12 @@ use Rattle.wording.specs.declared.names.Listed.{Listed}
 pub record Naming (line : List ℕ) (actor role : ℕ) (all : Meaning) (sets : Sets) (k : ℕ) : Type 0 where
   pub n : ℕ
   pub twice : k + 2 * n ≡ 11
-  pub same : setsFrom n line k actor role sets ≡ all
+  pub same : sets_from n line k actor role sets ≡ all
 
 module _ {line : List ℕ} {actor role : ℕ} {all : Meaning} {sets : Sets} {k : ℕ} (h : Naming line actor role all sets k) where
-  pub name-over : 11 ≤ k → ends_at line 11 (asked 1 actor role 0 0 0 sets) ≡ all
-  unfolding setsFrom
-  name-over g = rw (none, last) at h.same
+  pub name_over : 11 ≤ k → ends_at line 11 (asked 1 actor role 0 0 0 sets) ≡ all
+  unfolding sets_from
+  name_over g = rw (none, last) at h.same
     where
       none : h.n ≡ 0
       none = omega arith
@@ -34,33 +34,33 @@ module _ {line : List ℕ} {actor role : ℕ} {all : Meaning} {sets : Sets} {k :
 
   -- at a word w, before the last set: it ends the line, or names a set that has not been named, whose roles are the word behind it
   module _ (l : k < 11) {w : List ℕ} (q : w ≡ word_at line k) where
-    turn : setsFrom (suc (h.n - 1)) line k actor role sets ≡ all
+    turn : sets_from (suc (h.n - 1)) line k actor role sets ≡ all
     turn = rw some h.same
       where
         some : suc (h.n - 1) ≡ h.n
         some = omega arith
 
-    pub name-none : length w ≡ 0 → Means (asked 1 actor role 0 0 0 sets) ≡ all
-    unfolding setsFrom
-    name-none z = rw (← q, eq-eqb (length w) 0 z) at turn
+    pub name_none : length w ≡ 0 → Means (asked 1 actor role 0 0 0 sets) ≡ all
+    unfolding sets_from
+    name_none z = rw (← q, eq-eqb (length w) 0 z) at turn
 
-    module _ (s : length w ≡ 0 → ⊥) {o : ℕ} (e : o ≡ optionOf w) where
-      pub name-high : 3 < o → Wrong k SetName ≡ all
-      unfolding setsFrom
-      name-high g = rw (← q, ne_eqb (length w) 0 s, ← e, lt-leb o 3 g) at turn
+    module _ (s : length w ≡ 0 → ⊥) {o : ℕ} (e : o ≡ option_of w) where
+      pub name_high : 3 < o → Wrong k SetName ≡ all
+      unfolding sets_from
+      name_high g = rw (← q, ne_eqb (length w) 0 s, ← e, lt-leb o 3 g) at turn
 
-      pub name-twice : (set_at o sets ≡ 0 → ⊥) → Wrong k SetName ≡ all
-      unfolding setsFrom
-      name-twice z = rw (← q, ne_eqb (length w) 0 s, ← e, ne_eqb (set_at o sets) 0 z, and-false) at turn
+      pub name_twice : (set_at o sets ≡ 0 → ⊥) → Wrong k SetName ≡ all
+      unfolding sets_from
+      name_twice z = rw (← q, ne_eqb (length w) 0 s, ← e, ne_eqb (set_at o sets) 0 z, and-false) at turn
 
       module _ (g : o ≤ 3) (z : set_at o sets ≡ 0) {roles : Listed} (f : roles ≡ members_of false (word_at line (k + 1))) where
-        pub name-bad : roles.fine ≡ false → Wrong (k + 1) Roles ≡ all
-        unfolding setsFrom
-        name-bad b = rw (← q, ne_eqb (length w) 0 s, ← e, le-leb o 3 g, eq-eqb (set_at o sets) 0 z, ← f, b) at turn
+        pub name_bad : roles.fine ≡ false → Wrong (k + 1) Roles ≡ all
+        unfolding sets_from
+        name_bad b = rw (← q, ne_eqb (length w) 0 s, ← e, le-leb o 3 g, eq-eqb (set_at o sets) 0 z, ← f, b) at turn
 
-        pub name-next : roles.fine ≡ true → Naming line actor role all (withSet o roles.set sets) (k + 2)
-        unfolding setsFrom
-        name-next b = record {
+        pub name_next : roles.fine ≡ true → Naming line actor role all (with_set o roles.set sets) (k + 2)
+        unfolding sets_from
+        name_next b = record {
           n = h.n - 1;
           twice = omega arith;
           same = rw (← q, ne_eqb (length w) 0 s, ← e, le-leb o 3 g, eq-eqb (set_at o sets) 0 z, ← f, b) at turn;

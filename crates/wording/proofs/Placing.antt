@@ -30,19 +30,19 @@ pub record Counting (text names : List ℕ) (k from : ℕ) : Type 0 where
   pub within : from ≤ length names + 1
   pub same : k + place_in text (rest_of 44 names from) ≡ place_in text (pieces 44 names)
 
-pub count-start : (text names : List ℕ) → Counting text names 0 0
+pub count_start : (text names : List ℕ) → Counting text names 0 0
 unfolding rest_of
-count-start text names = record { few = zero-le; within = zero-le; same = omega arith }
+count_start text names = record { few = zero-le; within = zero-le; same = omega arith }
 
 module _ {text names : List ℕ} {k from : ℕ} (h : Counting text names k from) where
-  pub count-over : length names < from → k ≡ place_in text (pieces 44 names)
+  pub count_over : length names < from → k ≡ place_in text (pieces 44 names)
   unfolding place_in
-  count-over g = sym (add-zero k) ∙ rw (rest_over 44 names from g) at h.same
+  count_over g = sym (add-zero k) ∙ rw (rest_over 44 names from g) at h.same
 
   module _ {end : ℕ} (t : Turn 44 names from end) where
-    pub count-here : alike? text (take (end - from) (drop from names)) ≡ true → k ≡ place_in text (pieces 44 names)
+    pub count_here : alike? text (take (end - from) (drop from names)) ≡ true → k ≡ place_in text (pieces 44 names)
     unfolding place_in
-    count-here e = sym (add-zero k) ∙ rw (t.cut, e) at h.same
+    count_here e = sym (add-zero k) ∙ rw (t.cut, e) at h.same
 
     pub count_next : alike? text (take (end - from) (drop from names)) ≡ false → Counting text names (k + 1) (end + 1)
     unfolding place_in

@@ -7,7 +7,7 @@
 use Rattle.std.specs.Prelude.{Bool, false, cond, ◌&&◌, List, ℕ, zero, suc, ◌+◌, eqb, leb, length}
 use Rattle.board.specs.declared.Command.{Command}
 use Rattle.wording.specs.Texts.{word_at}
-use Rattle.wording.specs.Names.{code_of, kind_of, optionOf, roleOf, members_of, rightsOf}
+use Rattle.wording.specs.Names.{code_of, kind_of, option_of, role_of, members_of, rights_of}
 use Rattle.wording.specs.declared.Meaning.{Meaning}
 use Rattle.wording.specs.declared.Meaning.TheVariants.{Means, Wrong}
 use Rattle.wording.specs.declared.Sets.{Sets}
@@ -53,8 +53,8 @@ set_at o sets =
     (cond (eqb o 1) sets.i_seniors
     (cond (eqb o 2) sets.a_juniors sets.i_juniors))
 
-unfoldable pub withSet : ℕ → ℕ → Sets → Sets
-withSet o set sets =
+unfoldable pub with_set : ℕ → ℕ → Sets → Sets
+with_set o set sets =
     record {
       a_seniors = cond (eqb o 0) set sets.a_seniors;
       i_seniors = cond (eqb o 1) set sets.i_seniors;
@@ -63,37 +63,37 @@ withSet o set sets =
     }
 
 -- From this place on up to n names of sets, each with its roles behind it. None may have been named before: a set that was has a role in it
--- (`set-some`).
-unfoldable pub setsFrom : ℕ → List ℕ → ℕ → ℕ → ℕ → Sets → Meaning
-setsFrom zero line k actor role sets = ends_at line k (asked 1 actor role 0 0 0 sets)
-setsFrom (suc n) line k actor role sets =
+-- (`set_some`).
+unfoldable pub sets_from : ℕ → List ℕ → ℕ → ℕ → ℕ → Sets → Meaning
+sets_from zero line k actor role sets = ends_at line k (asked 1 actor role 0 0 0 sets)
+sets_from (suc n) line k actor role sets =
     cond (none? line k) (Means (asked 1 actor role 0 0 0 sets))
-    (wanting (leb (optionOf (word_at line k)) 3 && eqb (set_at (optionOf (word_at line k)) sets) 0) k SetName
+    (wanting (leb (option_of (word_at line k)) 3 && eqb (set_at (option_of (word_at line k)) sets) 0) k SetName
     (wanting (members_of false (word_at line (k + 1))).fine (k + 1) Roles
-    (setsFrom n line (k + 2) actor role (withSet (optionOf (word_at line k)) (members_of false (word_at line (k + 1))).set sets))))
+    (sets_from n line (k + 2) actor role (with_set (option_of (word_at line k)) (members_of false (word_at line (k + 1))).set sets))))
 
 -- ---- what follows the role, by command
 
-unfoldable pub edgeFrom : List ℕ → ℕ → ℕ → ℕ → Meaning
-edgeFrom line code actor senior =
-    wanting (leb (roleOf (word_at line 3)) 63) 3 Role
+unfoldable pub edge_from : List ℕ → ℕ → ℕ → ℕ → Meaning
+edge_from line code actor senior =
+    wanting (leb (role_of (word_at line 3)) 63) 3 Role
     (wanting (leb (kind_of (word_at line 4)) 3) 4 Kind
-    (ends_at line 5 (asked code actor senior (roleOf (word_at line 3)) (kind_of (word_at line 4)) 0 no_sets)))
+    (ends_at line 5 (asked code actor senior (role_of (word_at line 3)) (kind_of (word_at line 4)) 0 no_sets)))
 
-unfoldable pub rightsFrom : List ℕ → ℕ → ℕ → ℕ → Meaning
-rightsFrom line code actor role =
-    wanting (rightsOf (word_at line 3)).fine 3 Rights
-    (ends_at line 4 (asked code actor role 0 0 (rightsOf (word_at line 3)).set no_sets))
+unfoldable pub rights_from : List ℕ → ℕ → ℕ → ℕ → Meaning
+rights_from line code actor role =
+    wanting (rights_of (word_at line 3)).fine 3 Rights
+    (ends_at line 4 (asked code actor role 0 0 (rights_of (word_at line 3)).set no_sets))
 
-unfoldable pub byCode : List ℕ → ℕ → ℕ → ℕ → Meaning
-byCode line code actor role =
-    cond (eqb code 1) (setsFrom 4 line 3 actor role no_sets)
+unfoldable pub by_code : List ℕ → ℕ → ℕ → ℕ → Meaning
+by_code line code actor role =
+    cond (eqb code 1) (sets_from 4 line 3 actor role no_sets)
     (cond (eqb code 2) (ends_at line 3 (asked code actor role 0 0 0 no_sets))
-    (cond (leb code 5) (edgeFrom line code actor role) (rightsFrom line code actor role)))
+    (cond (leb code 5) (edge_from line code actor role) (rights_from line code actor role)))
 
-unfoldable pub meaningOf : List ℕ → Meaning
-meaningOf line =
-    wanting (leb (roleOf (word_at line 0)) 63) 0 Role
+unfoldable pub meaning_of : List ℕ → Meaning
+meaning_of line =
+    wanting (leb (role_of (word_at line 0)) 63) 0 Role
     (wanting (leb (code_of (word_at line 1)) 7) 1 Name
-    (wanting (leb (roleOf (word_at line 2)) 63) 2 Role
-    (byCode line (code_of (word_at line 1)) (roleOf (word_at line 0)) (roleOf (word_at line 2)))))
+    (wanting (leb (role_of (word_at line 2)) 63) 2 Role
+    (by_code line (code_of (word_at line 1)) (role_of (word_at line 0)) (role_of (word_at line 2)))))

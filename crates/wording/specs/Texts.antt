@@ -4,12 +4,12 @@ use Prim.Native.Char.{code}
 use Prim.Native.String.{String, len, char_at}
 
 -- the bytes of a name; all names here are ASCII
-abbrev pub bytesFrom : ℕ → ℕ → String → List ℕ
-bytesFrom zero at name = []
-bytesFrom (suc n) at name = code (char_at name at) ∷ bytesFrom n (suc at) name
+abbrev pub bytes_from : ℕ → ℕ → String → List ℕ
+bytes_from zero at name = []
+bytes_from (suc n) at name = code (char_at name at) ∷ bytes_from n (suc at) name
 
 abbrev pub bytes : String → List ℕ
-bytes name = bytesFrom (len name) 0 name
+bytes name = bytes_from (len name) 0 name
 
 -- whether two texts are the same bytes
 unfoldable pub alike? : List ℕ → List ℕ → Bool
@@ -57,9 +57,9 @@ beginnings at ([] ∷ ps) = beginnings (at + 1) ps
 beginnings at ((b ∷ p) ∷ ps) = at ∷ beginnings (at + length (b ∷ p) + 1) ps
 
 -- where in the line the word at a place begins; 0 past the last word
-abbrev pub wordStart : List ℕ → ℕ → ℕ
-wordStart line k = get_or (beginnings 0 (pieces 32 line)) k 0
+abbrev pub word_start : List ℕ → ℕ → ℕ
+word_start line k = get_or (beginnings 0 (pieces 32 line)) k 0
 
 -- The word is a part of the caller's own line: `part_at` and `line_at_lem` are where the two lie in memory, a block and a place in it.
 abbrev pub WordOf : List ℕ → ℕ × ℕ → ℕ → List ℕ → ℕ × ℕ → Type 0
-WordOf line line_at_lem k part part_at = (part ≡ word_at line k) × (part_at.0 ≡ line_at_lem.0) × (part_at.1 ≡ line_at_lem.1 + wordStart line k)
+WordOf line line_at_lem k part part_at = (part ≡ word_at line k) × (part_at.0 ≡ line_at_lem.0) × (part_at.1 ≡ line_at_lem.1 + word_start line k)

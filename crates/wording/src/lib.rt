@@ -8,7 +8,7 @@
 //
 // SET is roles, as 1,2,5. Words stand apart by blanks. `specs/Meanings.antt` says what a line means.
 ghost use Rattle.std.specs.Prelude.{◌≡◌, cond};
-ghost use Rattle.wording.specs.Meanings.{asked, no_sets, set_at, withSet, setsFrom, edgeFrom, rightsFrom, byCode, ends_at, meaningOf};
+ghost use Rattle.wording.specs.Meanings.{asked, no_sets, set_at, with_set, sets_from, edge_from, rights_from, by_code, ends_at, meaning_of};
 
 use board::Command;
 use names::{code, kind, members, rights, role, set_name};
@@ -127,7 +127,7 @@ fn chosen(here: bool, set: u64, other: u64) -> u64
 }
 
 fn with_set(sets: Sets, o: usize, set: u64) -> Sets
-    ensures { result ≡ withSet o set sets }
+    ensures { result ≡ with_set o set sets }
 {
     Sets {
         a_seniors: chosen(o == 0, set, sets.a_seniors),
@@ -139,7 +139,7 @@ fn with_set(sets: Sets, o: usize, set: u64) -> Sets
 
 // From the word at 3 on: the sets of a new role.
 fn on_new(line: &[u8], actor: u32, role: u32) -> Meaning
-    ensures { result ≡ setsFrom 4 line.now 3 actor role no_sets }
+    ensures { result ≡ sets_from 4 line.now 3 actor role no_sets }
 {
     let mut sets = no_sets();
     let mut k: usize = 3;
@@ -167,7 +167,7 @@ fn on_new(line: &[u8], actor: u32, role: u32) -> Meaning
 
 // From the word at 3 on: the junior and the kind of an edge.
 fn on_edge(line: &[u8], code: u32, actor: u32, senior: u32) -> Meaning
-    ensures { result ≡ edgeFrom line.now code actor senior }
+    ensures { result ≡ edge_from line.now code actor senior }
 {
     let junior = role(word(line, 3));
     if 63 < junior {
@@ -186,7 +186,7 @@ fn on_edge(line: &[u8], code: u32, actor: u32, senior: u32) -> Meaning
 
 // From the word at 3 on: the rights that are given or taken.
 fn on_rights(line: &[u8], code: u32, actor: u32, role: u32) -> Meaning
-    ensures { result ≡ rightsFrom line.now code actor role }
+    ensures { result ≡ rights_from line.now code actor role }
 {
     let named = rights(word(line, 3));
     if !named.fine {
@@ -197,7 +197,7 @@ fn on_rights(line: &[u8], code: u32, actor: u32, role: u32) -> Meaning
 }
 
 fn by_code(line: &[u8], code: u32, actor: u32, role: u32) -> Meaning
-    ensures { result ≡ byCode line.now code actor role }
+    ensures { result ≡ by_code line.now code actor role }
 {
     if code == 1 {
         return on_new(line, actor, role);
@@ -213,7 +213,7 @@ fn by_code(line: &[u8], code: u32, actor: u32, role: u32) -> Meaning
 
 // What a line means.
 pub fn meant(line: &[u8]) -> Meaning
-    ensures { result ≡ meaningOf line.now }
+    ensures { result ≡ meaning_of line.now }
 {
     let actor = role(word(line, 0));
     if 63 < actor {

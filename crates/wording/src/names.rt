@@ -1,7 +1,7 @@
 // What a word names. Where names are counted, a number past the last stands for none.
 ghost use Rattle.std.specs.Prelude.{◌≡◌, ◌+◌, ◌≤◌, length};
 ghost use Rattle.wording.specs.Texts.{pieces};
-ghost use Rattle.wording.specs.Names.{place_in, code_of, kind_of, optionOf, rightOf, roleOf, name_of, most, members_of, rightsOf};
+ghost use Rattle.wording.specs.Names.{place_in, code_of, kind_of, option_of, right_of, role_of, name_of, most, members_of, rights_of};
 ghost use Rattle.wording.specs.Steps.{grown};
 
 use crate::pieces::{COMMA, piece_end};
@@ -43,13 +43,13 @@ pub(crate) fn kind(text: &[u8]) -> usize
 }
 
 pub(crate) fn set_name(text: &[u8]) -> usize
-    ensures { result ≡ optionOf text.now }
+    ensures { result ≡ option_of text.now }
 {
     place_in(text, b"a-seniors,i-seniors,a-juniors,i-juniors")
 }
 
 fn right(text: &[u8]) -> usize
-    ensures { result ≡ rightOf text.now }
+    ensures { result ≡ right_of text.now }
 {
     place_in(
         text,
@@ -79,7 +79,7 @@ fn grown(number: usize, b: u8) -> usize
 
 // The role of a decimal number, 64 where it is none.
 pub(crate) fn role(text: &[u8]) -> usize
-    ensures { result ≡ roleOf text.now }
+    ensures { result ≡ role_of text.now }
 {
     let n = text.len();
     if n == 0 {
@@ -143,7 +143,7 @@ pub(crate) fn members(text: &[u8], rights: bool) -> Listed
 
 // Rights by their names, or all of them.
 pub(crate) fn rights(text: &[u8]) -> Listed
-    ensures { result ≡ rightsOf text.now }
+    ensures { result ≡ rights_of text.now }
 {
     if check::same(text, b"all") {
         return Listed {

@@ -8,7 +8,7 @@ use Prim.Native.Nat.{ℕ, zero, suc, ◌+◌, ◌-◌, ◌≤◌, ◌<◌, zero-
 use native.Mathlib.Nat.{zero-add, suc-add, add-suc, add-zero, add-sub_of_le, le_refl, le_antisymm, not-suc-le-zero, le_of_suc-le-suc}
 use native.Mathlib.Omega.{arith}
 use lib.ListN.{length, get_or, length-append}
-use Rattle.sets.proofs.Bools.{lt-or-ge, iff-same}
+use Rattle.sets.proofs.Bools.{lt_or_ge, iff_same}
 use Rattle.writer.specs.Files.{from}
 
 -- ---- one after the other
@@ -17,25 +17,25 @@ kept : (p : Bool) (x : ℕ) (ys zs : List ℕ) {xs : List ℕ} → xs ≡ ys ++ 
 kept true x ys zs e = ap (λ (l : List ℕ). x ∷ l) e
 kept false x ys zs e = e
 
-pub from-split : (m n k : ℕ) (f : ℕ → Bool) → from (m + n) k f ≡ from m k f ++ from n (k + m) f
+pub from_split : (m n k : ℕ) (f : ℕ → Bool) → from (m + n) k f ≡ from m k f ++ from n (k + m) f
 unfolding from
-from-split zero n k f = rw (zero-add, add-zero)
-from-split (suc m) n k f = rw (suc-add, add-suc, ← suc-add) (kept (f k) k (from m (suc k) f) (from n (suc k + m) f) (from-split m n (suc k) f))
+from_split zero n k f = rw (zero-add, add-zero)
+from_split (suc m) n k f = rw (suc-add, add-suc, ← suc-add) (kept (f k) k (from m (suc k) f) (from n (suc k + m) f) (from_split m n (suc k) f))
 
 -- ---- tests that agree
 
-pub from-same : (n k : ℕ) (f g : ℕ → Bool) → ((x : ℕ) → k ≤ x → x < k + n → f x ≡ g x) → from n k f ≡ from n k g
+pub from_same : (n k : ℕ) (f g : ℕ → Bool) → ((x : ℕ) → k ≤ x → x < k + n → f x ≡ g x) → from n k f ≡ from n k g
 unfolding from
-from-same zero k f g h = refl
-from-same (suc n) k f g h =
-    let rest : from n (suc k) f ≡ from n (suc k) g = from-same n (suc k) f g (λ x a b. h x (omega arith) (omega arith)) in
+from_same zero k f g h = refl
+from_same (suc n) k f g h =
+    let rest : from n (suc k) f ≡ from n (suc k) g = from_same n (suc k) f g (λ x a b. h x (omega arith) (omega arith)) in
     ap₂ (λ (p : Bool) (l : List ℕ). cond p (k ∷ l) l) (h k (le_refl k) (omega arith)) rest
 
-pub from-none : (n k : ℕ) (f : ℕ → Bool) → ((x : ℕ) → k ≤ x → x < k + n → f x ≡ false) → from n k f ≡ []
+pub from_none : (n k : ℕ) (f : ℕ → Bool) → ((x : ℕ) → k ≤ x → x < k + n → f x ≡ false) → from n k f ≡ []
 unfolding from
-from-none zero k f h = refl
-from-none (suc n) k f h =
-    rw (h k (le_refl k) (omega arith)) (from-none n (suc k) f (λ x a b. h x (omega arith) (omega arith)))
+from_none zero k f h = refl
+from_none (suc n) k f h =
+    rw (h k (le_refl k) (omega arith)) (from_none n (suc k) f (λ x a b. h x (omega arith) (omega arith)))
 
 -- ---- what stands at an index
 
@@ -59,10 +59,10 @@ from_at (suc n) k f i l = go (f k) refl i l (from_at n (suc k) f)
     go true e (suc i) l ih = further n k f (get_or (from n (suc k) f) i 0) (ih i (le_of_suc-le-suc l))
     go false e i l ih = further n k f (get_or (from n (suc k) f) i 0) (ih i l)
 
-pub from-rises : (n k : ℕ) (f : ℕ → Bool) (i : ℕ) → suc i < length (from n k f) → get_or (from n k f) i 0 < get_or (from n k f) (suc i) 0
+pub from_rises : (n k : ℕ) (f : ℕ → Bool) (i : ℕ) → suc i < length (from n k f) → get_or (from n k f) i 0 < get_or (from n k f) (suc i) 0
 unfolding from
-from-rises zero k f i l = absurd (not-suc-le-zero l)
-from-rises (suc n) k f i l = go (f k) i l (from-rises n (suc k) f) (λ j h. (from_at n (suc k) f j h).low)
+from_rises zero k f i l = absurd (not-suc-le-zero l)
+from_rises (suc n) k f i l = go (f k) i l (from_rises n (suc k) f) (λ j h. (from_at n (suc k) f j h).low)
   where
     go : (p : Bool) (i : ℕ) → suc i < length (cond p (k ∷ from n (suc k) f) (from n (suc k) f))
         → ((j : ℕ) → suc j < length (from n (suc k) f) → get_or (from n (suc k) f) j 0 < get_or (from n (suc k) f) (suc j) 0)
@@ -83,25 +83,25 @@ pub record Found (l : List ℕ) (x : ℕ) : Type 0 where
   pub inside : at < length l
   pub is : get_or l at 0 ≡ x
 
-pub from-has : (n k : ℕ) (f : ℕ → Bool) (x : ℕ) → f x ≡ true → k ≤ x → x < k + n → Found (from n k f) x
+pub from_has : (n k : ℕ) (f : ℕ → Bool) (x : ℕ) → f x ≡ true → k ≤ x → x < k + n → Found (from n k f) x
 unfolding from
-from-has zero k f x h a b = absurd (omega arith)
-from-has (suc n) k f x h a b = ⊎_elim
-    (λ (l : k < x). go (f k) (from-has n (suc k) f x h l (omega arith)))
+from_has zero k f x h a b = absurd (omega arith)
+from_has (suc n) k f x h a b = ⊎_elim
+    (λ (l : k < x). go (f k) (from_has n (suc k) f x h l (omega arith)))
     (λ (g : x ≤ k). let e : k ≡ x = le_antisymm a g in rw (subst (λ (m : ℕ). f m ≡ true) (sym e) h) (record { at = 0; inside = suc-le-suc zero-le; is = e }))
-    (lt-or-ge k x)
+    (lt_or_ge k x)
   where
     go : (p : Bool) → Found (from n (suc k) f) x → Found (cond p (k ∷ from n (suc k) f) (from n (suc k) f)) x
     go true w = record { at = suc w.at; inside = suc-le-suc w.inside; is = w.is }
     go false w = w
 
 -- a list that ascends is settled by its members
-pub from-settles : (n k : ℕ) (f g : ℕ → Bool) → from n k f ≡ from n k g → (x : ℕ) → k ≤ x → x < k + n → f x ≡ g x
-from-settles n k f g e x a b = iff-same (f x) (g x) (one f g e) (one g f (sym e))
+pub from_settles : (n k : ℕ) (f g : ℕ → Bool) → from n k f ≡ from n k g → (x : ℕ) → k ≤ x → x < k + n → f x ≡ g x
+from_settles n k f g e x a b = iff_same (f x) (g x) (one f g e) (one g f (sym e))
   where
     one : (f g : ℕ → Bool) → from n k f ≡ from n k g → f x ≡ true → g x ≡ true
     one f g e h =
-        let w = from-has n k f x h a b in
+        let w = from_has n k f x h a b in
         subst (λ (y : ℕ). g y ≡ true) (ap (λ (l : List ℕ). get_or l w.at 0) (sym e) ∙ w.is)
         (from_at n k g w.at (subst (λ (l : List ℕ). w.at < length l) e w.inside)).holds
 
@@ -118,26 +118,26 @@ pub from_next : (k p d q : ℕ) (f g : ℕ → Bool) → k + d ≡ q → p ≤ d
 from_next k p d q f g e l same none here =
     let m : ℕ = d - p in
     let tail : from (m + 1) (k + p) g ≡ q ∷ [] =
-    from-split m 1 (k + p) g
-    ∙ ap₂ ◌++◌ (from-none m (k + p) g (λ x a b. none x a (omega arith))) (ap (λ (x : ℕ). from 1 x g) (omega arith) ∙ from_one q g here) in
-    ap (λ (n : ℕ). from n k g) (omega arith) ∙ from-split p (m + 1) k g ∙ ap₂ ◌++◌ (from-same p k g f same) tail
+    from_split m 1 (k + p) g
+    ∙ ap₂ ◌++◌ (from_none m (k + p) g (λ x a b. none x a (omega arith))) (ap (λ (x : ℕ). from 1 x g) (omega arith) ∙ from_one q g here) in
+    ap (λ (n : ℕ). from n k g) (omega arith) ∙ from_split p (m + 1) k g ∙ ap₂ ◌++◌ (from_same p k g f same) tail
 
 -- past n there is no number more
 pub from_end : (m n k : ℕ) (f : ℕ → Bool) → n ≤ m → ((x : ℕ) → k + n ≤ x → x < k + m → f x ≡ false) → from m k f ≡ from n k f
 from_end m n k f l none =
     ap (λ (x : ℕ). from x k f) (sym (add-sub_of_le l))
-    ∙ from-split n (m - n) k f
-    ∙ ap (λ (t : List ℕ). from n k f ++ t) (from-none (m - n) (k + n) f (λ x a b. none x a (omega arith)))
+    ∙ from_split n (m - n) k f
+    ∙ ap (λ (t : List ℕ). from n k f ++ t) (from_none (m - n) (k + n) f (λ x a b. none x a (omega arith)))
     ∙ append-nil (from n k f)
 
-pub from-mono : (m n k : ℕ) (f : ℕ → Bool) → m ≤ n → length (from m k f) ≤ length (from n k f)
-from-mono m n k f l =
-    omega (arith, ap (λ (x : ℕ). length (from x k f)) (add-sub_of_le l), ap length (from-split m (n - m) k f), length-append (from m k f) (from (n - m) (k + m) f))
+pub from_mono : (m n k : ℕ) (f : ℕ → Bool) → m ≤ n → length (from m k f) ≤ length (from n k f)
+from_mono m n k f l =
+    omega (arith, ap (λ (x : ℕ). length (from x k f)) (add-sub_of_le l), ap length (from_split m (n - m) k f), length-append (from m k f) (from (n - m) (k + m) f))
 
-pub from-short : (n k : ℕ) (f : ℕ → Bool) → length (from n k f) ≤ n
+pub from_short : (n k : ℕ) (f : ℕ → Bool) → length (from n k f) ≤ n
 unfolding from
-from-short zero k f = zero-le
-from-short (suc n) k f = go (f k) (from-short n (suc k) f)
+from_short zero k f = zero-le
+from_short (suc n) k f = go (f k) (from_short n (suc k) f)
   where
     go : (p : Bool) → length (from n (suc k) f) ≤ n → length (cond p (k ∷ from n (suc k) f) (from n (suc k) f)) ≤ suc n
     go true h = suc-le-suc h

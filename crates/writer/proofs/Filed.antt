@@ -15,58 +15,58 @@ use Rattle.hierarchy.specs.Tables.{Tables}
 use Rattle.hierarchy.specs.First.{First}
 use Rattle.board.specs.Boards.{tables_of, SoundBoard}
 use Rattle.board.specs.declared.Board.{Board}
-use Rattle.frames.specs.Frames.{trailer, rightsTrailer}
-use Rattle.frames.specs.Framing.{bodyLength, trailerOf}
-use Rattle.writer.specs.Files.{from, edge?, edgeBytes, kind_at, founding?, fileOf}
-use Rattle.writer.specs.Parts.{tailLength, Put, Room, PutAnswer}
+use Rattle.frames.specs.Frames.{trailer, rights_trailer}
+use Rattle.frames.specs.Framing.{body_length, trailer_of}
+use Rattle.writer.specs.Files.{from, edge?, edge_bytes, kind_at, founding?, file_of}
+use Rattle.writer.specs.Parts.{tail_length, Put, Room, PutAnswer}
 use Rattle.writer.specs.Writing.{NoRoom, WriteAnswer}
 use Rattle.writer.specs.Writing.{NoRoom.past_end, NoRoom.too_few}
-use Rattle.writer.proofs.Ascending.{from-short}
-use Rattle.writer.proofs.EdgeBytes.{records-length, roles_of, edgesOf}
-use Rattle.writer.proofs.Counts.{ones-from}
-use Rattle.writer.proofs.OneFile.{file-trailed}
-use Rattle.writer.proofs.Puts.{put_last, rest-long}
+use Rattle.writer.proofs.Ascending.{from_short}
+use Rattle.writer.proofs.EdgeBytes.{records_length, roles_of, edges_of}
+use Rattle.writer.proofs.Counts.{ones_from}
+use Rattle.writer.proofs.OneFile.{file_trailed}
+use Rattle.writer.proofs.Puts.{put_last, rest_long}
 
 -- ---- the sizes
 
-frame-long : (plain : Bool) (n e : ℕ) → bodyLength plain n e + length (trailerOf plain n e) ≡ n + e + tailLength plain n
-unfolding bodyLength trailerOf trailer rightsTrailer tailLength
-frame-long true n e = refl
-frame-long false n e = omega arith
+frame_long : (plain : Bool) (n e : ℕ) → body_length plain n e + length (trailer_of plain n e) ≡ n + e + tail_length plain n
+unfolding body_length trailer_of trailer rights_trailer tail_length
+frame_long true n e = refl
+frame_long false n e = omega arith
 
 -- a file is as long as its parts
-pub file-length : (t : Tables) (rights : List ℕ) → length (fileOf t rights) ≡ length (roles_of t rights) + length (edgesOf t rights) + tailLength (founding? rights) (length (roles_of t rights))
-file-length t rights = (file-trailed t rights).long ∙ frame-long (founding? rights) (length (roles_of t rights)) (length (edgesOf t rights))
+pub file_length : (t : Tables) (rights : List ℕ) → length (file_of t rights) ≡ length (roles_of t rights) + length (edges_of t rights) + tail_length (founding? rights) (length (roles_of t rights))
+file_length t rights = (file_trailed t rights).long ∙ frame_long (founding? rights) (length (roles_of t rights)) (length (edges_of t rights))
 
-pub tail-few : (plain : Bool) (n : ℕ) → tailLength plain n ≤ n + 8
-unfolding tailLength
-tail-few true n = omega arith
-tail-few false n = le_refl (n + 8)
+pub tail_few : (plain : Bool) (n : ℕ) → tail_length plain n ≤ n + 8
+unfolding tail_length
+tail_few true n = omega arith
+tail_few false n = le_refl (n + 8)
 
 module _ (t : Tables) {roles n : ℕ} (fits : t.live < 2 ^ 64) (r : roles ≡ ones t.live) (e : n ≡ length (from 4096 0 (edge? (kind_at t)))) where
-  role-bytes : roles ≡ length (from 64 0 (bit t.live))
-  role-bytes = r ∙ sym (ones-from 64 t.live fits)
+  role_bytes : roles ≡ length (from 64 0 (bit t.live))
+  role_bytes = r ∙ sym (ones_from 64 t.live fits)
 
-  edge-bytes : 3 * n ≡ length (edgeBytes (kind_at t) 4096 0)
-  unfolding edgeBytes
-  edge-bytes = ap (λ (m : ℕ). 3 * m) e ∙ sym (records-length (kind_at t) (from 4096 0 (edge? (kind_at t))))
+  edge_bytes_lem : 3 * n ≡ length (edge_bytes (kind_at t) 4096 0)
+  unfolding edge_bytes
+  edge_bytes_lem = ap (λ (m : ℕ). 3 * m) e ∙ sym (records_length (kind_at t) (from 4096 0 (edge? (kind_at t))))
 
-  pub sizes-few : (roles ≤ 64) × (n ≤ 4096)
-  sizes-few = (omega (arith, role-bytes, from-short 64 0 (bit t.live)), omega (arith, from-short 4096 0 (edge? (kind_at t))))
+  pub sizes_few : (roles ≤ 64) × (n ≤ 4096)
+  sizes_few = (omega (arith, role_bytes, from_short 64 0 (bit t.live)), omega (arith, from_short 4096 0 (edge? (kind_at t))))
 
-  module _ (rights : List ℕ) {plain : Bool} {tail : ℕ} (w : plain ≡ founding? rights) (l : tail ≡ tailLength plain roles) where
-    pub file-long : roles + 3 * n + tail ≡ length (fileOf t rights)
-    file-long = rw (l, role-bytes, edge-bytes, w) (sym (file-length t rights))
+  module _ (rights : List ℕ) {plain : Bool} {tail : ℕ} (w : plain ≡ founding? rights) (l : tail ≡ tail_length plain roles) where
+    pub file_long : roles + 3 * n + tail ≡ length (file_of t rights)
+    file_long = rw (l, role_bytes, edge_bytes_lem, w) (sym (file_length t rights))
 
-    pub file-room : (out : List ℕ) (at : ℕ) → at ≤ length out → roles + 3 * n + tail ≤ length out - at
+    pub file_room : (out : List ℕ) (at : ℕ) → at ≤ length out → roles + 3 * n + tail ≤ length out - at
         → Room t rights plain roles (3 * n) (mid_of at (length out - at) out)
-    file-room out at _ h = record { which = w; role-bytes = role-bytes; edge-bytes = edge-bytes; enough = omega (arith, l, rest-long at out) }
+    file_room out at _ h = record { which = w; role_bytes = role_bytes; edge_bytes_lem = edge_bytes_lem; enough = omega (arith, l, rest_long at out) }
 
 -- ---- the answers
 
-pub unsound-file : {b : Board} {entry : List ℕ} {at : ℕ} → (SoundBoard b → ⊥) → WriteAnswer b entry at entry 1 0
+pub unsound_file : {b : Board} {entry : List ℕ} {at : ℕ} → (SoundBoard b → ⊥) → WriteAnswer b entry at entry 1 0
 unfolding First
-unsound-file h = record { numbered = inl (h, refl); done = λ e. absurd (omega arith); refused = λ _. (refl, refl) }
+unsound_file h = record { numbered = inl (h, refl); done = λ e. absurd (omega arith); refused = λ _. (refl, refl) }
 
 module _ {file : List ℕ} {entry : List ℕ} {at : ℕ} where
   pub no_room : NoRoom file entry at → PutAnswer file entry at entry 12 0
@@ -92,6 +92,6 @@ module _ {file : List ℕ} {entry : List ℕ} {at : ℕ} where
           ∙ ap (λ (n : ℕ). take at entry ++ file ++ drop n entry) (length-append (take at entry) file ∙ ap (λ (n : ℕ). n + length file) front)
 
 -- of a sound board, what `put` answers `write` may answer
-pub put-writes : {b : Board} {entry exit : List ℕ} {at number len : ℕ} → SoundBoard b → PutAnswer (fileOf (tables_of b) b.rights) entry at exit number len → WriteAnswer b entry at exit number len
+pub put_writes : {b : Board} {entry exit : List ℕ} {at number len : ℕ} → SoundBoard b → PutAnswer (file_of (tables_of b) b.rights) entry at exit number len → WriteAnswer b entry at exit number len
 unfolding First
-put-writes sound p = record { numbered = inr (λ n. n sound, p.numbered); done = p.done; refused = p.refused }
+put_writes sound p = record { numbered = inr (λ n. n sound, p.numbered); done = p.done; refused = p.refused }

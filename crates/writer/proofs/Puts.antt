@@ -10,20 +10,20 @@ use lib.ListN.{length, get_or, take, drop, set, length-append, length-drop, take
 use lib.Seq.{drop-cons, set-append_seam, append_snoc, take-append_seam, drop-append_seam, drop-append-le, drop-drop, length-take-le}
 use borrow.Rule.Slice.PartMut.{mid_of, post_of, put_mid}
 use Rattle.sets.specs.Sets.{bit, same?, LowestRole, NoRole}
-use Rattle.sets.proofs.Bools.{lt-or-ge, not_so, false-no}
-use Rattle.sets.proofs.Laws.{same-eq, same_self}
+use Rattle.sets.proofs.Bools.{lt_or_ge, not_so, false_no}
+use Rattle.sets.proofs.Laws.{same_eq, same_self}
 use Rattle.writer.specs.Files.{from}
 use Rattle.writer.specs.Parts.{Put}
 use Rattle.writer.proofs.Ascending.{from_next, from_end}
 
 -- ---- at the front
 
-pub put-length : (bs d out : List ℕ) → Put bs d out → length bs ≤ length d → length out ≡ length d
-put-length bs d out p l = ap length p ∙ length-append bs (drop (length bs) d) ∙ omega (arith, length-drop (length bs) d)
+pub put_length : (bs d out : List ℕ) → Put bs d out → length bs ≤ length d → length out ≡ length d
+put_length bs d out p l = ap length p ∙ length-append bs (drop (length bs) d) ∙ omega (arith, length-drop (length bs) d)
 
 -- one byte more
-pub put-more : (bs d out : List ℕ) (k b : ℕ) → Put bs d out → k ≡ length bs → length bs < length d → Put (bs ++ (b ∷ [])) d (set out k b)
-put-more bs d out k b p e l =
+pub put_more : (bs d out : List ℕ) (k b : ℕ) → Put bs d out → k ≡ length bs → length bs < length d → Put (bs ++ (b ∷ [])) d (set out k b)
+put_more bs d out k b p e l =
     ap₂ (λ (o : List ℕ) (j : ℕ). set o j b) (p ∙ ap (λ (r : List ℕ). bs ++ r) (drop-cons d (length bs) 0 l)) e
     ∙ set-append_seam bs (get_or d (length bs) 0) (drop (suc (length bs)) d) b
     ∙ sym (append_snoc bs b (drop (suc (length bs)) d))
@@ -33,21 +33,21 @@ put-more bs d out k b p e l =
 pub put_three : (bs d out : List ℕ) (k x y z : ℕ) → Put bs d out → k ≡ length bs → length bs + 3 ≤ length d
     → Put (bs ++ (x ∷ y ∷ z ∷ [])) d (set (set (set out k x) (k + 1) y) (k + 2) z)
 put_three bs d out k x y z p e l =
-    let one = put-more bs d out k x p e (omega arith) in
-    let two = put-more (bs ++ (x ∷ [])) d (set out k x) (k + 1) y one (omega (arith, length-append bs (x ∷ []))) (omega (arith, length-append bs (x ∷ []))) in
+    let one = put_more bs d out k x p e (omega arith) in
+    let two = put_more (bs ++ (x ∷ [])) d (set out k x) (k + 1) y one (omega (arith, length-append bs (x ∷ []))) (omega (arith, length-append bs (x ∷ []))) in
     let two' = subst (λ (l : List ℕ). Put l d (set (set out k x) (k + 1) y)) (append_assoc bs (x ∷ []) (y ∷ [])) two in
     subst (λ (l : List ℕ). Put l d (set (set (set out k x) (k + 1) y) (k + 2) z)) (append_assoc bs (x ∷ y ∷ []) (z ∷ []))
-    (put-more (bs ++ (x ∷ y ∷ [])) d (set (set out k x) (k + 1) y) (k + 2) z two' (omega (arith, length-append bs (x ∷ y ∷ []))) (omega (arith, length-append bs (x ∷ y ∷ []))))
+    (put_more (bs ++ (x ∷ y ∷ [])) d (set (set out k x) (k + 1) y) (k + 2) z two' (omega (arith, length-append bs (x ∷ y ∷ []))) (omega (arith, length-append bs (x ∷ y ∷ []))))
 
 pub put_six : (d : List ℕ) (x y z u v w : ℕ) → 6 ≤ length d → Put (x ∷ y ∷ z ∷ u ∷ v ∷ w ∷ []) d (set (set (set (set (set (set d 0 x) 1 y) 2 z) 3 u) 4 v) 5 w)
 put_six d x y z u v w l = put_three (x ∷ y ∷ z ∷ []) d (set (set (set d 0 x) 1 y) 2 z) 3 u v w (put_three [] d d 0 x y z refl refl (omega arith)) refl l
 
 pub put_two : (d : List ℕ) (x y : ℕ) → 2 ≤ length d → Put (x ∷ y ∷ []) d (set (set d 0 x) 1 y)
-put_two d x y l = put-more (x ∷ []) d (set d 0 x) 1 y (put-more [] d d 0 x refl refl (omega arith)) refl l
+put_two d x y l = put_more (x ∷ []) d (set d 0 x) 1 y (put_more [] d d 0 x refl refl (omega arith)) refl l
 
 -- a second part behind the first
-pub put-behind : (bs cs d out part : List ℕ) → Put bs d out → Put cs (drop (length bs) out) part → Put (bs ++ cs) d (take (length bs) out ++ part)
-put-behind bs cs d out part p q =
+pub put_behind : (bs cs d out part : List ℕ) → Put bs d out → Put cs (drop (length bs) out) part → Put (bs ++ cs) d (take (length bs) out ++ part)
+put_behind bs cs d out part p q =
     ap₂ ◌++◌ (ap (take (length bs)) p ∙ take-append_seam bs (drop (length bs) d)) (q ∙ ap (λ (r : List ℕ). cs ++ drop (length cs) r) rest ∙ ap (λ (r : List ℕ). cs ++ r) (drop-drop (length cs) (length bs) d))
     ∙ sym (append_assoc bs cs (drop (length bs + length cs) d))
     ∙ ap (λ (n : ℕ). bs ++ cs ++ drop n d) (sym (length-append bs cs))
@@ -56,11 +56,11 @@ put-behind bs cs d out part p q =
     rest = ap (drop (length bs)) p ∙ drop-append_seam bs (drop (length bs) d)
 
 -- the same where the second part is lent, k bytes from a on
-pub put-part : (bs cs d out part : List ℕ) (a k : ℕ) → Put bs d out → a ≡ length bs → length cs ≤ k → a + k ≤ length out
+pub put_part : (bs cs d out part : List ℕ) (a k : ℕ) → Put bs d out → a ≡ length bs → length cs ≤ k → a + k ≤ length out
     → Put cs (mid_of a k out) part → Put (bs ++ cs) d (put_mid a k out part)
-put-part bs cs d out part a k p e l m q =
+put_part bs cs d out part a k p e l m q =
     ap (λ (n : ℕ). take n out ++ (part ++ post_of a k out)) e
-    ∙ put-behind bs cs d out (part ++ post_of a k out) p (subst (λ (n : ℕ). Put cs (drop n out) (part ++ post_of a k out)) e whole)
+    ∙ put_behind bs cs d out (part ++ post_of a k out) p (subst (λ (n : ℕ). Put cs (drop n out) (part ++ post_of a k out)) e whole)
   where
     enough : length cs ≤ length (mid_of a k out)
     enough = omega (arith, length-take-le k (drop a out) (omega (arith, length-drop a out)))
@@ -73,16 +73,16 @@ put-part bs cs d out part a k p e l m q =
 
 -- a first part in the n bytes that are lent for it, and a last one in all that lie behind
 pub put_first : (bs d part : List ℕ) (n : ℕ) → n ≡ length bs → n ≤ length d → Put bs (mid_of 0 (n - 0) d) part → Put bs d (put_mid 0 (n - 0) d part)
-put_first bs d part n e l q = put-part [] bs d d part 0 (n - 0) refl refl (omega arith) (omega arith) q
+put_first bs d part n e l q = put_part [] bs d d part 0 (n - 0) refl refl (omega arith) (omega arith) q
 
 pub put_last : (bs cs d out part : List ℕ) (a : ℕ) → Put bs d out → a ≡ length bs → a + length cs ≤ length d
     → Put cs (mid_of a (length out - a) out) part → Put (bs ++ cs) d (put_mid a (length out - a) out part)
 put_last bs cs d out part a p e l q =
-    let long = put-length bs d out p (omega arith) in
-    put-part bs cs d out part a (length out - a) p e (omega arith) (omega arith) q
+    let long = put_length bs d out p (omega arith) in
+    put_part bs cs d out part a (length out - a) p e (omega arith) (omega arith) q
 
-pub rest-long : (a : ℕ) (out : List ℕ) → length (mid_of a (length out - a) out) ≡ length out - a
-rest-long a out = length-take-le (length out - a) (drop a out) (omega (arith, length-drop a out))
+pub rest_long : (a : ℕ) (out : List ℕ) → length (mid_of a (length out - a) out) ≡ length out - a
+rest_long a out = length-take-le (length out - a) (drop a out) (omega (arith, length-drop a out))
 
 -- ---- the members of a set, from the lowest on: rest has those from next on
 
@@ -91,39 +91,39 @@ pub record Taking (g : ℕ → Bool) (base rest next : ℕ) : Type 0 where
   pub left : (y : ℕ) → next ≤ y → y < 64 → bit rest y ≡ g (base + y)
   pub small : next ≤ 64
 
-pub taking-start : (g : ℕ → Bool) (base rest : ℕ) → ((y : ℕ) → y < 64 → bit rest y ≡ g (base + y)) → Taking g base rest 0
-taking-start g base rest h = record { gone = λ y l. absurd (omega arith); left = λ y a b. h y b; small = zero-le }
+pub taking_start : (g : ℕ → Bool) (base rest : ℕ) → ((y : ℕ) → y < 64 → bit rest y ≡ g (base + y)) → Taking g base rest 0
+taking_start g base rest h = record { gone = λ y l. absurd (omega arith); left = λ y a b. h y b; small = zero-le }
 
 module _ {g : ℕ → Bool} {base rest next r : ℕ} (t : Taking g base rest next) (lowest : LowestRole rest r) where
   first : next ≤ r
-  first = ⊎_elim (λ (l : r < next). absurd (false-no (t.gone r l) lowest.member)) (λ h. h) (lt-or-ge r next)
+  first = ⊎_elim (λ (l : r < next). absurd (false_no (t.gone r l) lowest.member)) (λ h. h) (lt_or_ge r next)
 
-  pub taking-there : g (base + r) ≡ true
-  taking-there = sym (t.left r first lowest.role) ∙ lowest.member
+  pub taking_there : g (base + r) ≡ true
+  taking_there = sym (t.left r first lowest.role) ∙ lowest.member
 
   none_between : (y : ℕ) → next ≤ y → y < r → g (base + y) ≡ false
   none_between y a b = sym (t.left y a (omega (arith, lowest.role))) ∙ not_so (bit rest y) (λ e. absurd (omega (arith, lowest.least y e)))
 
-  pub taking-next : from (suc r) base g ≡ from next base g ++ ((base + r) ∷ [])
-  taking-next =
+  pub taking_next : from (suc r) base g ≡ from next base g ++ ((base + r) ∷ [])
+  taking_next =
       from_next base next r (base + r) g g refl first (λ x a b. refl)
       (λ x a b. subst (λ (z : ℕ). g z ≡ false) (omega arith) (none_between (x - base) (omega arith) (omega arith)))
-      taking-there
+      taking_there
 
-  pub taking-turn : (rest' : ℕ) → ((y : ℕ) → bit rest' y ≡ (bit rest y && not (same? r y))) → Taking g base rest' (suc r)
-  taking-turn rest' less = record {
+  pub taking_turn : (rest' : ℕ) → ((y : ℕ) → bit rest' y ≡ (bit rest y && not (same? r y))) → Taking g base rest' (suc r)
+  taking_turn rest' less = record {
     gone = λ y l. less y ∙ ⊎_elim
         (λ (h : y < r). ap (λ (p : Bool). p && not (same? r y)) (not_so (bit rest y) (λ e. absurd (omega (arith, lowest.least y e)))))
         (λ (h : r ≤ y). ap (λ (p : Bool). bit rest y && not p) (subst (λ (z : ℕ). same? r z ≡ true) (omega arith) (same_self r lowest.role)) ∙ and-false (bit rest y))
-        (lt-or-ge y r);
+        (lt_or_ge y r);
     left = λ y a b. less y
-        ∙ ap (λ (p : Bool). bit rest y && not p) (not_so (same? r y) (λ e. absurd (omega (arith, same-eq r y e))))
+        ∙ ap (λ (p : Bool). bit rest y && not p) (not_so (same? r y) (λ e. absurd (omega (arith, same_eq r y e))))
         ∙ and-true (bit rest y)
         ∙ t.left y (omega (arith, first)) b;
     small = omega (arith, lowest.role);
   }
 
-pub taking-end : {g : ℕ → Bool} {base rest next : ℕ} → Taking g base rest next → NoRole rest → from 64 base g ≡ from next base g
-taking-end {g} {base} {rest} {next} t n =
+pub taking_end : {g : ℕ → Bool} {base rest next : ℕ} → Taking g base rest next → NoRole rest → from 64 base g ≡ from next base g
+taking_end {g} {base} {rest} {next} t n =
     from_end 64 next base g t.small
     (λ x a b. subst (λ (z : ℕ). g z ≡ false) (omega arith) (sym (t.left (x - base) (omega arith) (omega arith)) ∙ n.none (x - base)))

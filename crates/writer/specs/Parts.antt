@@ -3,49 +3,49 @@ use Rattle.std.specs.Prelude.{◌≡◌, Bool, cond, ◌≢◌, List, [], ◌∷
 use Rattle.sets.specs.Sets.{bit}
 use Rattle.hierarchy.specs.Tables.{Tables, tables, kind_of}
 use Rattle.hierarchy.specs.First.{First}
-use Rattle.board.specs.Rights.{rightsOf}
+use Rattle.board.specs.Rights.{rights_of}
 use Rattle.board.specs.Asked.{misnamed, Answered}
 use Rattle.frames.specs.Frames.{byte}
-use Rattle.frames.specs.Framing.{trailerOf}
-use Rattle.writer.specs.Files.{from, edgeBytes, kind_at, founding?}
+use Rattle.frames.specs.Framing.{trailer_of}
+use Rattle.writer.specs.Files.{from, edge_bytes, kind_at, founding?}
 use Rattle.writer.specs.Writing.{Stands, NoRoom, Placed, Unplaced}
 
 -- ---- what the parts of the writer do
 
 -- the kinds at the places of two tables: unfolded, those of every board that has the two, whoever lives
-abbrev pub kindsIn : List ℕ → List ℕ → ℕ → ℕ
-kindsIn i a = kind_at (tables 0 i a)
+abbrev pub kinds_in : List ℕ → List ℕ → ℕ → ℕ
+kinds_in i a = kind_at (tables 0 i a)
 
 -- the bytes go to the front of what was there
 abbrev pub Put : List ℕ → List ℕ → List ℕ → Type 0
 Put bytes entry exit = exit ≡ bytes ++ drop (length bytes) entry
 
 -- the last six bytes of either trailer: two distances, and the two bytes of its mark
-unfoldable pub lastSix : ℕ → ℕ → List ℕ → List ℕ
-lastSix e r mark = e % 256 ∷ e / 256 ∷ r % 256 ∷ r / 256 ∷ byte mark 0 ∷ byte mark 1 ∷ []
+unfoldable pub last_six : ℕ → ℕ → List ℕ → List ℕ
+last_six e r mark = e % 256 ∷ e / 256 ∷ r % 256 ∷ r / 256 ∷ byte mark 0 ∷ byte mark 1 ∷ []
 
 -- the edge records of one senior, by its two rows
-unfoldable pub rowBytes : ℕ → ℕ → ℕ → List ℕ
-rowBytes x i a = edgeBytes (λ e. kind_of (bit i (e % 64)) (bit a (e % 64))) 64 (x * 64)
+unfoldable pub row_bytes : ℕ → ℕ → ℕ → List ℕ
+row_bytes x i a = edge_bytes (λ e. kind_of (bit i (e % 64)) (bit a (e % 64))) 64 (x * 64)
 
 -- what lies behind the edge records, and its length
-unfoldable pub tailOf : Bool → ℕ → List ℕ → ℕ → ℕ → List ℕ
-tailOf plain live rights roles edges = cond plain [] (map (rightsOf rights) (from 64 0 (bit live))) ++ trailerOf plain roles edges
+unfoldable pub tail_of : Bool → ℕ → List ℕ → ℕ → ℕ → List ℕ
+tail_of plain live rights roles edges = cond plain [] (map (rights_of rights) (from 64 0 (bit live))) ++ trailer_of plain roles edges
 
-unfoldable pub tailLength : Bool → ℕ → ℕ
-tailLength plain roles = cond plain 6 (roles + 8)
+unfoldable pub tail_length : Bool → ℕ → ℕ
+tail_length plain roles = cond plain 6 (roles + 8)
 
 pub record TailRoom (live : ℕ) (plain : Bool) (roles edges : ℕ) (out : List ℕ) : Type 0 where
-  pub role-bytes : roles ≡ length (from 64 0 (bit live))
+  pub role_bytes : roles ≡ length (from 64 0 (bit live))
   pub few : roles + edges < 65000
-  pub enough : tailLength plain roles ≤ length out
+  pub enough : tail_length plain roles ≤ length out
 
 -- the sizes of a file's parts, and room for it
 pub record Room (t : Tables) (rights : List ℕ) (plain : Bool) (roles edges : ℕ) (out : List ℕ) : Type 0 where
   pub which : plain ≡ founding? rights
-  pub role-bytes : roles ≡ length (from 64 0 (bit t.live))
-  pub edge-bytes : edges ≡ length (edgeBytes (kind_at t) 4096 0)
-  pub enough : roles + edges + tailLength plain roles ≤ length out
+  pub role_bytes : roles ≡ length (from 64 0 (bit t.live))
+  pub edge_bytes_lem : edges ≡ length (edge_bytes (kind_at t) 4096 0)
+  pub enough : roles + edges + tail_length plain roles ≤ length out
 
 -- a file put from a place on, where there is room
 pub record PutAnswer (file : List ℕ) (entry : List ℕ) (at : ℕ) (exit : List ℕ) (number len : ℕ) : Type 0 where

@@ -4,17 +4,17 @@ use Rattle.hierarchy.specs.Tables.{Tables}
 use Rattle.hierarchy.specs.First.{First}
 use Rattle.board.specs.Boards.{tables_of, SoundBoard}
 use Rattle.board.specs.declared.Board.{Board}
-use Rattle.writer.specs.Files.{fileOf, stretchOf, start_of}
+use Rattle.writer.specs.Files.{file_of, stretch_of, start_of}
 
 -- ---- where the edge records of one senior stand
 
 -- A senior without an edge has no place to name, and its start is 0.
-unfoldable pub startOrNone : Tables → ℕ → ℕ
-startOrNone t role = cond (eqb (length (stretchOf t role)) 0) 0 (start_of t role)
+unfoldable pub start_or_none : Tables → ℕ → ℕ
+start_or_none t role = cond (eqb (length (stretch_of t role)) 0) 0 (start_of t role)
 
 -- where they begin in the file, and how many bytes they are
 abbrev pub Stands : ℕ → Tables → ℕ × ℕ → Type 0
-Stands role t place = (place.0 ≡ startOrNone t role) × (place.1 ≡ length (stretchOf t role))
+Stands role t place = (place.0 ≡ start_or_none t role) × (place.1 ≡ length (stretch_of t role))
 
 -- ---- writing to a place of a buffer
 
@@ -32,11 +32,11 @@ abbrev pub Unplaced : List ℕ → List ℕ → ℕ → Type 0
 Unplaced entry exit len = (len ≡ 0) × (exit ≡ entry)
 
 -- 1, then 12
-abbrev pub writeRefusals : Board → List ℕ → ℕ → List (ℕ × Type 0)
-writeRefusals b entry at = (1, (SoundBoard b → ⊥)) ∷ (12, NoRoom (fileOf (tables_of b) b.rights) entry at) ∷ []
+abbrev pub write_refusals : Board → List ℕ → ℕ → List (ℕ × Type 0)
+write_refusals b entry at = (1, (SoundBoard b → ⊥)) ∷ (12, NoRoom (file_of (tables_of b) b.rights) entry at) ∷ []
 
 -- done puts the file there, a refusal leaves every byte, and the length is 0
 pub record WriteAnswer (b : Board) (entry : List ℕ) (at : ℕ) (exit : List ℕ) (number len : ℕ) : Type 0 where
-  pub numbered : First (writeRefusals b entry at) number
-  pub done : number ≡ 0 → Placed (fileOf (tables_of b) b.rights) entry at exit len
+  pub numbered : First (write_refusals b entry at) number
+  pub done : number ≡ 0 → Placed (file_of (tables_of b) b.rights) entry at exit len
   pub refused : number ≢ 0 → Unplaced entry exit len

@@ -10,9 +10,9 @@ pub mod records;
 
 ghost use Rattle.std.specs.Prelude.{◌≡◌, ◌*◌, ◌≤◌, length};
 ghost use Rattle.hierarchy.specs.Tables.{tables};
-ghost use Rattle.board.specs.Boards.{boardOf, tables_of};
-ghost use Rattle.writer.specs.Files.{from, edge?, kind_at, founding?, fileOf};
-ghost use Rattle.writer.specs.Parts.{kindsIn, PutAnswer};
+ghost use Rattle.board.specs.Boards.{board_of, tables_of};
+ghost use Rattle.writer.specs.Files.{from, edge?, kind_at, founding?, file_of};
+ghost use Rattle.writer.specs.Parts.{kinds_in, PutAnswer};
 ghost use Rattle.writer.specs.Writing.{WriteAnswer};
 
 use board::Board;
@@ -29,7 +29,7 @@ pub struct Written {
 // How many edges have a senior below this one.
 pub(crate) fn edges_below<'t>(i: &'t [u64; 64], a: &'t [u64; 64], senior: usize) -> usize
     requires { senior ≤ 64 }
-    ensures { result ≡ length (from (senior * 64) 0 (edge? (kindsIn i.now a.now))) }
+    ensures { result ≡ length (from (senior * 64) 0 (edge? (kinds_in i.now a.now))) }
 {
     let mut n: usize = 0;
     let mut x: usize = 0;
@@ -73,7 +73,7 @@ pub fn put<'t>(
     out: &mut [u8],
     at: usize,
 ) -> Written
-    ensures { PutAnswer (fileOf (tables live i.now a.now) rights.now) out.old at out.new result.number result.len }
+    ensures { PutAnswer (file_of (tables live i.now a.now) rights.now) out.old at out.new result.number result.len }
 {
     let roles = size(live) as usize;
     let edges = 3 * edges_below(i, a, 64);
@@ -98,7 +98,7 @@ pub fn write_of<'t>(
     out: &mut [u8],
     at: usize,
 ) -> Written
-    ensures { WriteAnswer (boardOf live i.now a.now derives.now derivers.now manager.now rights.now) out.old at out.new result.number result.len }
+    ensures { WriteAnswer (board_of live i.now a.now derives.now derivers.now manager.now rights.now) out.old at out.new result.number result.len }
 {
     if !sound_of(live, i, a, derives, derivers, manager, rights) {
         return Written { number: 1, len: 0 };

@@ -2,10 +2,10 @@
 ghost use Rattle.std.specs.Prelude.{◌≡◌, map, ◌+◌, ◌*◌, ◌≤◌, ◌<◌, length};
 ghost use Rattle.sets.specs.Sets.{bit};
 ghost use Rattle.hierarchy.specs.Tables.{tables, kind_of};
-ghost use Rattle.board.specs.Rights.{rightsOf};
-ghost use Rattle.frames.specs.Frames.{rightsTrailer};
-ghost use Rattle.writer.specs.Files.{from, edgeBytes, fileOf};
-ghost use Rattle.writer.specs.Parts.{kindsIn, rowBytes, Put, lastSix, tailOf, tailLength, TailRoom, Room};
+ghost use Rattle.board.specs.Rights.{rights_of};
+ghost use Rattle.frames.specs.Frames.{rights_trailer};
+ghost use Rattle.writer.specs.Files.{from, edge_bytes, file_of};
+ghost use Rattle.writer.specs.Parts.{kinds_in, row_bytes, Put, last_six, tail_of, tail_length, TailRoom, Room};
 
 use frames::{MARK, RIGHTS_MARK, RIGHTS_TRAILER, TRAILER, edges_back};
 use sets::{Pick, but_lowest, has, lowest, union};
@@ -13,7 +13,7 @@ use sets::{Pick, but_lowest, has, lowest, union};
 // The rights bytes of these live roles.
 fn put_rights(live: u64, rights: &[u8; 64], out: &mut [u8])
     requires { length (from 64 0 (bit live)) ≤ length out.old }
-    ensures { Put (map (rightsOf rights.now) (from 64 0 (bit live))) out.old out.new }
+    ensures { Put (map (rights_of rights.now) (from 64 0 (bit live))) out.old out.new }
 {
     let mut rest = live;
     let mut k: usize = 0;
@@ -62,8 +62,8 @@ fn kind(i: bool, a: bool) -> u8
 
 // The records of one senior, by its row in either table; and how many bytes they are.
 fn put_row(senior: usize, i: u64, a: u64, out: &mut [u8]) -> usize
-    requires { (senior < 64) × (length (rowBytes senior i a) ≤ length out.old) }
-    ensures { (result ≡ length (rowBytes senior i a)) × Put (rowBytes senior i a) out.old out.new }
+    requires { (senior < 64) × (length (row_bytes senior i a) ≤ length out.old) }
+    ensures { (result ≡ length (row_bytes senior i a)) × Put (row_bytes senior i a) out.old out.new }
 {
     let mut rest = union(i, a);
     let mut at: usize = 0;
@@ -81,8 +81,8 @@ fn put_row(senior: usize, i: u64, a: u64, out: &mut [u8]) -> usize
 
 // All edge records.
 fn put_edges<'t>(i: &'t [u64; 64], a: &'t [u64; 64], out: &mut [u8])
-    requires { length (edgeBytes (kindsIn i.now a.now) 4096 0) ≤ length out.old }
-    ensures { Put (edgeBytes (kindsIn i.now a.now) 4096 0) out.old out.new }
+    requires { length (edge_bytes (kinds_in i.now a.now) 4096 0) ≤ length out.old }
+    ensures { Put (edge_bytes (kinds_in i.now a.now) 4096 0) out.old out.new }
 {
     let mut at: usize = 0;
     let mut x: usize = 0;
@@ -95,7 +95,7 @@ fn put_edges<'t>(i: &'t [u64; 64], a: &'t [u64; 64], out: &mut [u8])
 // The last six bytes of a file, by its distances of edge records and of role bytes and by its mark, the very last two.
 fn put_trailer(edges: usize, roles: usize, mark: [u8; 2], out: &mut [u8])
     requires { (edges < 65536) × (roles < 65536) × (6 ≤ length out.old) }
-    ensures { Put (lastSix edges roles mark) out.old out.new }
+    ensures { Put (last_six edges roles mark) out.old out.new }
 {
     out[0] = (edges % 256) as u8;
     out[1] = (edges / 256) as u8;
@@ -108,7 +108,7 @@ fn put_trailer(edges: usize, roles: usize, mark: [u8; 2], out: &mut [u8])
 // The trailer of a file with rights bytes, by its three distances.
 fn put_rights_trailer(rights: usize, edges: usize, roles: usize, out: &mut [u8])
     requires { (rights < 65536) × (edges < 65536) × (roles < 65536) × (8 ≤ length out.old) }
-    ensures { Put (rightsTrailer rights edges roles) out.old out.new }
+    ensures { Put (rights_trailer rights edges roles) out.old out.new }
 {
     out[0] = (rights % 256) as u8;
     out[1] = (rights / 256) as u8;
@@ -119,7 +119,7 @@ fn put_rights_trailer(rights: usize, edges: usize, roles: usize, out: &mut [u8])
 // rights bytes where the board's rights aren't the founding ones.
 fn put_tail(live: u64, rights: &[u8; 64], plain: bool, roles: usize, edges: usize, out: &mut [u8])
     requires { TailRoom live plain roles edges out.old }
-    ensures { Put (tailOf plain live rights.now roles edges) out.old out.new }
+    ensures { Put (tail_of plain live rights.now roles edges) out.old out.new }
 {
     if plain {
         put_trailer(edges, roles + edges, MARK, out);
@@ -146,7 +146,7 @@ pub(crate) fn put_file<'t>(
     out: &mut [u8],
 )
     requires { Room (tables live i.now a.now) rights.now plain roles edges out.old }
-    ensures { Put (fileOf (tables live i.now a.now) rights.now) out.old out.new }
+    ensures { Put (file_of (tables live i.now a.now) rights.now) out.old out.new }
 {
     let body = roles + edges;
     put_roles(live, &mut out[0..roles]);
@@ -157,7 +157,7 @@ pub(crate) fn put_file<'t>(
 // The bytes behind the edge records.
 pub(crate) fn tail_len(plain: bool, roles: usize) -> usize
     requires { roles ≤ 64 }
-    ensures { result ≡ tailLength plain roles }
+    ensures { result ≡ tail_length plain roles }
 {
     if plain {
         return TRAILER;

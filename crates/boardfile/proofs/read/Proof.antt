@@ -1,6 +1,6 @@
 use mathlib.Core.Path.{sym, subst}
 use Rattle.boardfile.specs.Answers.{ReadAnswer}
-use Rattle.boardfile.proofs.Readings.{read-refused, read_done}
+use Rattle.boardfile.proofs.Readings.{read_refused, read_done}
 use borrow.Author.Rules.{rules}
 use Rattle.boardfile.proofs.read.Statement.{statement}
 use Rattle.boardfile.proofs.read.Tie as tie
@@ -12,7 +12,7 @@ founding-requires : tie.Need-founding-requires
 founding-requires c κs = search rules
 
 returns : tie.Need-returns
-returns c = subst (ReadAnswer _ _) (sym c.founding.ensures) (read-refused c.before.before.before.«open».ensures c.before.if1.true)
+returns c = subst (ReadAnswer _ _) (sym c.founding.ensures) (read_refused c.before.before.before.«open».ensures c.before.if1.true)
 
 returns-2 : tie.Need-returns-2
 returns-2 c = read_done c.before.before.«open».ensures c.if1.false

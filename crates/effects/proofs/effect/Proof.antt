@@ -1,6 +1,6 @@
 use borrow.Author.Rules.{rules}
 use Rattle.hierarchy.specs.Tables.{tables}
-use Rattle.effects.proofs.Edits.{tables-are}
+use Rattle.effects.proofs.Edits.{tables_are}
 use Rattle.effects.proofs.effect.Statement.{statement}
 use Rattle.effects.proofs.effect.Tie as tie
 
@@ -28,7 +28,7 @@ living-requires c κs = search rules
 returns : tie.Need-returns
 returns c =
     let s = c.before.before.before.before.before.before.before.before.before.before.before in
-    tables-are (tables s.args.live s.args.i.now s.args.a.now) s.args.c _ _ _ _ _
+    tables_are (tables s.args.live s.args.i.now s.args.a.now) s.args.c _ _ _ _ _
     c.living.ensures c.before.before.before.before.before.has_part.ensures c.before.before.before.before.edit.ensures c.before.before.has-part2.ensures c.before.edit2.ensures
 
 pub effect-spec : {M : Type 1} → statement M

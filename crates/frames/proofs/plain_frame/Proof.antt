@@ -5,7 +5,7 @@ use Prim.Native.Nat.{ℕ, ◌%◌}
 use native.Mathlib.Omega.{arith}
 use borrow.Author.Tests.{ltb-true, ltb-false, eqb-true, eqb-false, not-true, not-false}
 use borrow.Author.Rules.{rules}
-use Rattle.frames.specs.Frames.{BadFrame.hh, BadHH.long, BadHH.not-all, BadHH.too_far, BadHH.no-triples, BadHH.no-roles, BadHH.many-roles}
+use Rattle.frames.specs.Frames.{BadFrame.hh, BadHH.long, BadHH.not_all, BadHH.too_far, BadHH.no_triples, BadHH.no_roles, BadHH.many_roles}
 use Rattle.frames.proofs.Frames.{framed}
 use Rattle.frames.proofs.plain_frame.Statement.{statement}
 use Rattle.frames.proofs.plain_frame.Tie as tie
@@ -23,7 +23,7 @@ distance-requires : tie.Need-distance-requires
 distance-requires c κs = search rules
 
 returns-2 : tie.Need-returns-2
-returns-2 c = hh c.before.before.before.before.requires.1 (not-all (λ e. c.if2.true (c.before.distance.ensures ∙ e)))
+returns-2 c = hh c.before.before.before.before.requires.1 (not_all (λ e. c.if2.true (c.before.distance.ensures ∙ e)))
 
 distance-requires-2 : tie.Need-distance-requires-2
 distance-requires-2 c κs = search rules
@@ -32,12 +32,12 @@ returns-3 : tie.Need-returns-3
 returns-3 c =
     let s = c.before.before.before.before.before.before in
     hh s.requires.1
-    (⊎_elim (λ w. too_far (omega arith)) (λ w. no-triples (λ e. eqb-false _ _ (not-true _ w.1.taken) (ap (λ (n : ℕ). n % 3) c.before.distance2.ensures ∙ e))) c.if3.branch)
+    (⊎_elim (λ w. too_far (omega arith)) (λ w. no_triples (λ e. eqb-false _ _ (not-true _ w.1.taken) (ap (λ (n : ℕ). n % 3) c.before.distance2.ensures ∙ e))) c.if3.branch)
 
 returns-4 : tie.Need-returns-4
 returns-4 c =
     let s = c.before.before.before.before.before.before.before.before in
-    hh s.requires.1 (⊎_elim (λ w. no-roles (omega arith)) (λ w. many-roles (omega (arith, ltb-true))) c.if5.branch)
+    hh s.requires.1 (⊎_elim (λ w. no_roles (omega arith)) (λ w. many_roles (omega (arith, ltb-true))) c.if5.branch)
 
 returns-5 : tie.Need-returns-5
 returns-5 c =
@@ -47,9 +47,9 @@ returns-5 c =
       high = omega arith;
       long = omega arith;
       mark = s.before.requires.1;
-      roles-far = omega arith;
-      edges-far = omega arith;
-      rights-far = λ q. absurd (true≢false q);
+      roles_far = omega arith;
+      edges_far = omega arith;
+      rights_far = λ q. absurd (true≢false q);
       triples = eqb-true _ _ (not-false _ c.before.before.if4.false);
       some = omega arith;
       few = ltb-false _ _ c.if6.false;

@@ -4,8 +4,8 @@ use Prim.Native.Nat.{ℕ, ◌%◌}
 use native.Mathlib.Omega.{arith}
 use borrow.Author.Tests.{ltb-true, ltb-false}
 use borrow.Author.Rules.{rules}
-use Rattle.frames.specs.Frames.{edgesBack}
-use Rattle.frames.specs.Frames.{BadFrame.hr, BadHR.short, BadHR.long, BadHR.not-all, BadHR.no-roles, BadHR.many-roles, BadHR.too_far, BadHR.no-triples, BadHR.wrong-edges}
+use Rattle.frames.specs.Frames.{edges_back}
+use Rattle.frames.specs.Frames.{BadFrame.hr, BadHR.short, BadHR.long, BadHR.not_all, BadHR.no_roles, BadHR.many_roles, BadHR.too_far, BadHR.no_triples, BadHR.wrong_edges}
 use Rattle.frames.proofs.Frames.{framed}
 use Rattle.frames.proofs.rights_frame.Statement.{statement}
 use Rattle.frames.proofs.rights_frame.Tie as tie
@@ -20,7 +20,7 @@ distance-requires : tie.Need-distance-requires
 distance-requires c κs = search rules
 
 returns-2 : tie.Need-returns-2
-returns-2 c = hr c.before.before.before.before.before.requires (not-all (λ e. c.if3.true (c.before.distance.ensures ∙ e)))
+returns-2 c = hr c.before.before.before.before.before.requires (not_all (λ e. c.if3.true (c.before.distance.ensures ∙ e)))
 
 distance-requires-2 : tie.Need-distance-requires-2
 distance-requires-2 c κs = search rules
@@ -28,7 +28,7 @@ distance-requires-2 c κs = search rules
 returns-3 : tie.Need-returns-3
 returns-3 c =
     hr c.before.before.before.before.before.before.before.requires
-    (⊎_elim (λ w. no-roles (omega arith)) (λ w. many-roles (omega (arith, ltb-true))) c.if4.branch)
+    (⊎_elim (λ w. no_roles (omega arith)) (λ w. many_roles (omega (arith, ltb-true))) c.if4.branch)
 
 mul-if6 : tie.Need-overflow-mul-if6
 mul-if6 c = omega (arith, ltb-false)
@@ -43,7 +43,7 @@ sub-edges : tie.Need-overflow-sub-edges
 sub-edges c = search rules
 
 returns-5 : tie.Need-returns-5
-returns-5 c = hr c.before.before.before.before.before.before.before.before.before.before.requires (no-triples (λ e. c.if7.true (ap (λ (n : ℕ). n % 3) (omega arith) ∙ e)))
+returns-5 c = hr c.before.before.before.before.before.before.before.before.before.before.requires (no_triples (λ e. c.if7.true (ap (λ (n : ℕ). n % 3) (omega arith) ∙ e)))
 
 sub-distance-2 : tie.Need-overflow-sub-distance-2
 sub-distance-2 c = search rules
@@ -61,7 +61,7 @@ edges-back-requires : tie.Need-edges-back-requires
 edges-back-requires c κs = search rules
 
 returns-6 : tie.Need-returns-6
-returns-6 c = hr c.before.before.before.before.before.before.before.before.before.before.before.before.before.requires (wrong-edges (λ e. c.if8.true (c.before.before.distance3.ensures ∙ e ∙ ap₂ edgesBack (omega arith) (omega arith) ∙ sym c.before.edges-back.ensures)))
+returns-6 c = hr c.before.before.before.before.before.before.before.before.before.before.before.before.before.requires (wrong_edges (λ e. c.if8.true (c.before.before.distance3.ensures ∙ e ∙ ap₂ edges_back (omega arith) (omega arith) ∙ sym c.before.edges-back.ensures)))
 
 returns-7 : tie.Need-returns-7
 returns-7 c =
@@ -71,9 +71,9 @@ returns-7 c =
       high = omega (arith, ltb-false);
       long = omega arith;
       mark = s.before.requires;
-      roles-far = omega arith;
-      edges-far = sym c.before.before.distance3.ensures ∙ c.if8.false ∙ c.before.edges-back.ensures;
-      rights-far = λ _. omega arith;
+      roles_far = omega arith;
+      edges_far = sym c.before.before.distance3.ensures ∙ c.if8.false ∙ c.before.edges-back.ensures;
+      rights_far = λ _. omega arith;
       triples = c.before.before.before.if7.false;
       some = omega arith;
       few = omega (arith, ltb-false);

@@ -37,7 +37,7 @@ use denote.Triple.Clauses.{ensured, lasts}
 use Rattle.board.specs.declared.Board.{Board}
 use Rattle.board.specs.declared.Command.{Command}
 use Rattle.board.specs.declared.answers.Answer.{Answer}
-use Rattle.board.proofs.Values.{ofCommand}
+use Rattle.board.proofs.Values.{of_command}
 use Rattle.commands.specs.Commands.{Decided}
 use Rattle.commands.proofs.lent.apply_in_place.Symbol.{name as #apply}
 use Rattle.answers.specs.Packing.{answer_of}
@@ -92,7 +92,7 @@ module _
 
   -- what the two triples bind outside
   abbrev to-apply : (Apply 𝓛 at_mem run).Ghost
-  to-apply = (((κ, tt), (q, tt), tt, (b, (k, tt)), (shr_vals b, (ofCommand k ∷ [], tt))), tt)
+  to-apply = (((κ, tt), (q, tt), tt, (b, (k, tt)), (shr_vals b, (of_command k ∷ [], tt))), tt)
 
   abbrev to-answered : Answer → Val → (Answered 𝓛 at_mem run).Ghost
   to-answered a w = ((tt, tt, tt, (a, tt), (w ∷ [], tt)), tt)
@@ -114,11 +114,11 @@ module _
         move ! (12 ∷ 13 ∷ []) $ looks ! tt Cm.the_row (Is Cm.the_row) (shows 𝓛 Cm.the_row) (LL.vals Cm.the_type Cm'.the_laws) (LL.tells Cm.the_type Cm'.the_laws)
         (LL.copy Cm.the_type Cm'.the_copy 𝓛) k c.ptr.0 c.ptr.1 (λ q' vs.
         spelt ! Cm.the_row (Is Cm.the_row) (shows 𝓛 Cm.the_row) (LL.vals Cm.the_type Cm'.the_laws) (LL.tells Cm.the_type Cm'.the_laws) q' k vs c.ptr.0 c.ptr.1 $
-        move ! (1 ∷ []) $ peeks ! Cm.the_row (Is Cm.the_row) (shows 𝓛 Cm.the_row) k (ofCommand k ∷ []) (λ gk. move ! (1 ∷ 0 ∷ []) $
+        move ! (1 ∷ []) $ peeks ! Cm.the_row (Is Cm.the_row) (shows 𝓛 Cm.the_row) k (of_command k ∷ []) (λ gk. move ! (1 ∷ 0 ∷ []) $
         -- [a share of the command's cell; what a Command owns; what shuts it; its borrow; _5; …; _4; …; _3; …; _2; …; _1; …; room for _0; …; the board's token; its borrow]
         assigns ! (of_opd ! (load ! (from ! (hop ! (look ! 10 refl) (stop !))) (look_raw ! 0 refl)))
         (from ! (stop !)) (init ! 4 refl ((LL.lawful Cm.the_type Cm'.the_laws 𝓛).typed k _ gk).0) $
-        shuts ! tt Cm.the_row q' k (ofCommand k ∷ []) c.ptr.0 c.ptr.1 $
+        shuts ! tt Cm.the_row q' k (of_command k ∷ []) c.ptr.0 c.ptr.1 $
         -- what `apply` asks is put together
         nothing ! $ owned ! Cm.the_row (Is Cm.the_row) (LL.makes Cm.the_type Cm'.the_plain 𝓛) k _ gk $ fjoin ! $ move ! (16 ∷ 0 ∷ []) $ fjoin ! $
         nothing ! $ move ! (16 ∷ 0 ∷ []) $ join ! $ join ! $ nothing ! $ move ! (1 ∷ 0 ∷ []) $ join ! $ use1 𝓛 (raw ((Apply 𝓛 at_mem run).pre to-apply)) (id⊢ 𝓤 _) $

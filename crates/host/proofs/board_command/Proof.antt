@@ -38,7 +38,7 @@ use denote.Triple.Walked.{says, Stays, gave_slice, stay_dropped, walk_of, Goes-g
 use denote.Exit.{yes}
 use denote.Triple.Clauses.{ensured, lasts}
 use Rattle.board.specs.declared.Command.{Command}
-use Rattle.board.proofs.Values.{ofCommand}
+use Rattle.board.proofs.Values.{of_command}
 use Rattle.board.specs.contracts.Command as Cm
 use Rattle.board.proofs.Command.TheLaws as Cm'
 use Rattle.host.specs.Answers.{Commanded}
@@ -87,7 +87,7 @@ module _
   to = (f, (k, (o, tt)))
 
   abbrev to-commanded : (Does 𝓛 at_mem run).Ghost
-  to-commanded = (((κ, (κ₂, tt)), (q, (q₂, tt)), tt, to, (shr_slice_vals f, (ofCommand k ∷ [], (shr_slice_vals o, tt)))), tt)
+  to-commanded = (((κ, (κ₂, tt)), (q, (q₂, tt)), tt, to, (shr_slice_vals f, (of_command k ∷ [], (shr_slice_vals o, tt)))), tt)
 
   module _ (C : Calls 𝓤 H) (Λ : Loops 𝓤 H) (fm : FmC 𝓤 H 𝓛.laws C) (known : Triple 𝓤 (C #commanded) (Does 𝓛 at_mem run)) where
     walk : ent 𝓤 (on_entry 𝓛 board-command.signature (κ, (κ₁, (κ₂, tt))) (q, (q₁, (q₂, tt))) x at)
@@ -104,11 +104,11 @@ module _
         move ! (14 ∷ 15 ∷ []) $ looks ! tt Cm.the_row (Is Cm.the_row) (shows 𝓛 Cm.the_row) (LL.vals Cm.the_type Cm'.the_laws) (LL.tells Cm.the_type Cm'.the_laws)
         (LL.copy Cm.the_type Cm'.the_copy 𝓛) k c.ptr.0 c.ptr.1 (λ q' vs.
         spelt ! Cm.the_row (Is Cm.the_row) (shows 𝓛 Cm.the_row) (LL.vals Cm.the_type Cm'.the_laws) (LL.tells Cm.the_type Cm'.the_laws) q' k vs c.ptr.0 c.ptr.1 $
-        move ! (1 ∷ []) $ peeks ! Cm.the_row (Is Cm.the_row) (shows 𝓛 Cm.the_row) k (ofCommand k ∷ []) (λ gk. move ! (1 ∷ 0 ∷ []) $
+        move ! (1 ∷ []) $ peeks ! Cm.the_row (Is Cm.the_row) (shows 𝓛 Cm.the_row) k (of_command k ∷ []) (λ gk. move ! (1 ∷ 0 ∷ []) $
         -- [a share of the command's cell; what a Command owns; what shuts it; its borrow; _6; …; _5; …; _4; …; _3; …; _2; …; _1; …; room for _0; …; …]
         assigns ! (of_opd ! (load ! (from ! (hop ! (look ! 12 refl) (stop !))) (look_raw ! 0 refl)))
         (from ! (stop !)) (init ! 8 refl ((LL.lawful Cm.the_type Cm'.the_laws 𝓛).typed k _ gk).0) $
-        shuts ! tt Cm.the_row q' k (ofCommand k ∷ []) c.ptr.0 c.ptr.1 $
+        shuts ! tt Cm.the_row q' k (of_command k ∷ []) c.ptr.0 c.ptr.1 $
         -- _6 is the buffer's borrow again
         assigns ! (addr ! (from ! (fld ! refl (hop ! (look_in ! 8 (sub ! 0 refl (whole !))) (stop !))))) (from ! (stop !)) (init ! 4 refl (tt, tt)) $
         assigns ! (agg ! (and_then ! (load ! (from ! (stop !)) (look ! 4 refl)) (and_then ! (load ! (from ! (fld ! refl (stop !))) (look_in ! 8 (sub ! 1 refl (whole !)))) (no_more !))))

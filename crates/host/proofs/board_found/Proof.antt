@@ -36,7 +36,7 @@ use denote.Triple.Spec.{triple_of}
 use denote.Triple.Table.{entered, cited}
 use denote.Triple.Walked.{says, Stays, stay_ref, walk_of, Goes-ref, Ending, ends_at, walked, walk_Meets}
 use denote.Triple.Clauses.{ensured, lasts}
-use Rattle.board.specs.Boards.{foundingBoard}
+use Rattle.board.specs.Boards.{founding_board}
 use Rattle.board.specs.declared.Board.{Board}
 use Rattle.board.specs.contracts.Board as B
 use Rattle.board.proofs.Board.TheLaws as B'
@@ -97,8 +97,8 @@ module _
         calls_at ! fm (Does 𝓛 at_mem run) known to-founding (no_more !) (λ v.
         use1 𝓛 (later (some (λ (r : Board). (‵ ftrue ⊛ ‵ ((B.the_row).own_val r (v ∷ []))) ⊛ raw (ensured 𝓛 founding.ended (founding.clauses 𝓛 at_mem run) tt tt tt r))))
         (id⊢ 𝓤 _) $ await ! tt $ pick ! (λ r. split ! $ move ! (1 ∷ []) $
-        use1 𝓛 (some (λ (zs : Unit {0}). ‵ (lasts founding.ended tt tt zs) ⊛ raw (fact 𝓤 (r ≡ foundingBoard)))) (id⊢ 𝓤 _) $
-        pick ! (λ zs. split ! $ drop ! $ heard ! (r ≡ foundingBoard) (λ e. split ! $ drop ! $
+        use1 𝓛 (some (λ (zs : Unit {0}). ‵ (lasts founding.ended tt tt zs) ⊛ raw (fact 𝓤 (r ≡ founding_board)))) (id⊢ 𝓤 _) $
+        pick ! (λ zs. split ! $ drop ! $ heard ! (r ≡ founding_board) (λ e. split ! $ drop ! $
         -- [what its Board owns; _2; …; _1; …; room for _0; …; obs; the borrow; its token]
         peeks ! B.the_row (Is B.the_row) (shows 𝓛 B.the_row) r (v ∷ []) (λ is. land ! (from ! (stop !)) (init ! 1 refl ((LL.lawful B.the_type B'.the_laws 𝓛).typed r _ is).0) $
         -- the borrow is opened

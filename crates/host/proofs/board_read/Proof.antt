@@ -39,7 +39,7 @@ use denote.Exit.{yes}
 use denote.Triple.Clauses.{ensured}
 use Rattle.board.specs.declared.Board.{Board}
 use Rattle.board.specs.contracts.Board as B
-use Rattle.board.proofs.Fields.{Loans, Lasts, tokensOf, lasts_of, lifetimesOf, shares_of, refsOf, pointersOf, boardOfLasts, lends-fields, takes-fields}
+use Rattle.board.proofs.Fields.{Loans, Lasts, tokens_of, lasts_of, lifetimes_of, shares_of, refs_of, pointers_of, board_of_lasts, lends_fields, takes_fields}
 use Rattle.host.specs.Answers.{ReadPacked}
 use Rattle.host.specs.contracts.read_packed as read-packed
 use Rattle.host.proofs.read_packed.Symbol as read-packed-def
@@ -81,11 +81,11 @@ module _
   o = r.ptr.1
 
   -- what `read_packed`'s triple binds outside
-  abbrev to : (k : Loans) → Args read-packed.signature (κ, lifetimesOf k tt)
-  to k = (f, refsOf k r.now b o tt)
+  abbrev to : (k : Loans) → Args read-packed.signature (κ, lifetimes_of k tt)
+  to k = (f, refs_of k r.now b o tt)
 
   abbrev to_read : Loans → (Does 𝓛 at_mem run).Ghost
-  to_read k = (((κ, lifetimesOf k tt), (q, shares_of tt), tt, to k, (shr_slice_vals f, pointersOf b o tt)), tt)
+  to_read k = (((κ, lifetimes_of k tt), (q, shares_of tt), tt, to k, (shr_slice_vals f, pointers_of b o tt)), tt)
 
   module _ (C : Calls 𝓤 H) (Λ : Loops 𝓤 H) (fm : FmC 𝓤 H 𝓛.laws C) (known : Triple 𝓤 (C #read-packed) (Does 𝓛 at_mem run)) where
     walk : ent 𝓤 (on_entry 𝓛 board-read.signature (κ, (κ₁, tt)) (q, (q₁, tt)) x at) (WpFn 𝓤 H C Λ code.function (only (shr_slice_vals f) ∷ shr_vals r) (Walk.post here))
@@ -105,24 +105,24 @@ module _
         assigns ! (addr ! (from ! (hop ! (look ! 14 refl) (fld ! refl (stop !))))) (from ! (stop !)) (init ! 2 refl (tt, tt)) $
         assigns ! (addr ! (from ! (hop ! (look ! 14 refl) (fld ! refl (stop !))))) (from ! (stop !)) (init ! 0 refl (tt, tt)) $
         -- the borrow is opened, the fields are lent, and what `read_packed` asks is put together
-        move ! (20 ∷ 21 ∷ 22 ∷ []) $ open_ref ! tt (mem B.the_row) {x = r.now} {b = b} {o = o} $ nothing ! $ move ! (1 ∷ 0 ∷ []) $ lends-fields ! tt r.now b o ftrue (λ k.
+        move ! (20 ∷ 21 ∷ 22 ∷ []) $ open_ref ! tt (mem B.the_row) {x = r.now} {b = b} {o = o} $ nothing ! $ move ! (1 ∷ 0 ∷ []) $ lends_fields ! tt r.now b o ftrue (λ k.
         move ! (28 ∷ 1 ∷ []) $ fjoin ! $ move ! (27 ∷ 1 ∷ 0 ∷ []) $ join ! $ join ! $ nothing ! $ move ! (1 ∷ 0 ∷ []) $ join ! $ use1 𝓛 (raw ((Does 𝓛 at_mem run).pre (to_read k))) (id⊢ 𝓤 _) $
         -- [what `read_packed` asks; the lender's parts; the way back; the open borrow; obs; auth; _9; …]
         calls_at ! fm (Does 𝓛 at_mem run) known (to_read k)
         (and_then ! (load ! (from ! (stop !)) (look ! 22 refl)) (and_then ! (load ! (from ! (stop !)) (look ! 18 refl)) (and_then ! (load ! (from ! (stop !)) (look ! 16 refl)) (and_then ! (load ! (from ! (stop !)) (look ! 14 refl)) (and_then ! (load ! (from ! (stop !)) (look ! 12 refl)) (and_then ! (load ! (from ! (stop !)) (look ! 10 refl)) (and_then ! (load ! (from ! (stop !)) (look ! 8 refl)) (and_then ! (load ! (from ! (stop !)) (look ! 6 refl)) (no_more !))))))))) (λ w.
-        use1 𝓛 (later (some (λ (n : ℕ). ((‵ (flft κ q) ⊛ ‵ (tokensOf k)) ⊛ ‵ (u64.own_val n (w ∷ []))) ⊛ raw (ensured 𝓛 read-packed.ended (read-packed.clauses 𝓛 at_mem run) (κ, lifetimesOf k tt) (to k) tt n))))
+        use1 𝓛 (later (some (λ (n : ℕ). ((‵ (flft κ q) ⊛ ‵ (tokens_of k)) ⊛ ‵ (u64.own_val n (w ∷ []))) ⊛ raw (ensured 𝓛 read-packed.ended (read-packed.clauses 𝓛 at_mem run) (κ, lifetimes_of k tt) (to k) tt n))))
         (id⊢ 𝓤 _) $ await ! tt $ pick ! (λ n. split ! $ move ! (1 ∷ []) $
-        use1 𝓛 (some (λ (zs : Unit {0} × Lasts (Unit {0})). ‵ (fsep ftrue (lasts_of k (boardOfLasts zs.1) ftrue)) ⊛ raw (fact 𝓤 (ReadPacked f.now r.now (boardOfLasts zs.1) n)))) (id⊢ 𝓤 _) $
-        pick ! (λ zs. split ! $ move ! (1 ∷ []) $ heard ! (ReadPacked f.now r.now (boardOfLasts zs.1) n) (λ e. fsplit ! $ move ! (2 ∷ []) $ split ! $ split ! $ move ! (2 ∷ []) $
+        use1 𝓛 (some (λ (zs : Unit {0} × Lasts (Unit {0})). ‵ (fsep ftrue (lasts_of k (board_of_lasts zs.1) ftrue)) ⊛ raw (fact 𝓤 (ReadPacked f.now r.now (board_of_lasts zs.1) n)))) (id⊢ 𝓤 _) $
+        pick ! (λ zs. split ! $ move ! (1 ∷ []) $ heard ! (ReadPacked f.now r.now (board_of_lasts zs.1) n) (λ e. fsplit ! $ move ! (2 ∷ []) $ split ! $ split ! $ move ! (2 ∷ []) $
         -- [the result; the file's token; the fields' tokens; true; the last values; the lender's parts; the way back; the open borrow; obs; auth; _9; …]
         peeks ! u64 (Is u64) (shows 𝓛 u64) n (w ∷ []) (λ is. land ! (from ! (stop !)) (init ! 28 refl ((uint_Lawful 𝓛 w64).typed n _ is).0) $
         -- the fields come back, and the borrow is closed
-        move ! (2 ∷ 4 ∷ 5 ∷ 6 ∷ []) $ takes-fields ! tt k (boardOfLasts zs.1) b o ftrue $ move ! (0 ∷ 4 ∷ 5 ∷ 6 ∷ []) $ close_ref ! tt (mem B.the_row) (boardOfLasts zs.1) {b = b} {o = o} $
+        move ! (2 ∷ 4 ∷ 5 ∷ 6 ∷ []) $ takes_fields ! tt k (board_of_lasts zs.1) b o ftrue $ move ! (0 ∷ 4 ∷ 5 ∷ 6 ∷ []) $ close_ref ! tt (mem B.the_row) (board_of_lasts zs.1) {b = b} {o = o} $
         -- [obs; the board's borrow; its token; the result; the file's token; true; _9; …]
         returns ! (look ! 24 refl) $ forget ! 6 refl $ forget ! 8 refl $ forget ! 10 refl $ forget ! 12 refl $ forget ! 14 refl $ forget ! 16 refl $ forget ! 18 refl $ forget ! 20 refl $ forget ! 22 refl $ forget ! 24 refl $
         move ! (24 ∷ 25 ∷ []) $ free1 ! $ move ! (22 ∷ 23 ∷ []) $ free1 ! $ move ! (20 ∷ 21 ∷ []) $ free1 ! $ move ! (18 ∷ 19 ∷ []) $ free1 ! $ move ! (16 ∷ 17 ∷ []) $ free1 ! $ move ! (14 ∷ 15 ∷ []) $ free1 ! $ move ! (12 ∷ 13 ∷ []) $ free1 ! $ move ! (10 ∷ 11 ∷ []) $ free1 ! $ move ! (8 ∷ 9 ∷ []) $ free1 ! $ move ! (6 ∷ 7 ∷ []) $ free1 ! $ free0 ! $
         -- the exit: the two tokens, the board's borrow, and the result
-        suffices ! _ (ends_at 𝓛 board-read.ended stayed (board-read.clauses 𝓛 at_mem run) here w n (tt, (boardOfLasts zs.1, tt)) (tt, (tt, tt))) $ says ! e $
+        suffices ! _ (ends_at 𝓛 board-read.ended stayed (board-read.clauses 𝓛 at_mem run) here w n (tt, (board_of_lasts zs.1, tt)) (tt, (tt, tt))) $ says ! e $
         move ! (2 ∷ 5 ∷ 4 ∷ 0 ∷ 1 ∷ 3 ∷ []) $ join ! $ move ! (1 ∷ 0 ∷ []) $ join ! $ frame ! $
         feq_i ! (List Val) (shr_vals r) (shr_vals r) refl $ fjoin3 ! $ nothing ! $ move ! (1 ∷ 0 ∷ []) $ fjoin ! $ nothing ! $ fjoin ! $ done !))))))))))))))))
 

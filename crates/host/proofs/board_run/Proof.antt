@@ -40,7 +40,7 @@ use Rattle.board.specs.declared.Command.{Command}
 use Rattle.answers.specs.Packing.{answer}
 use Rattle.runs.specs.Runs.{RunAnswer}
 use Rattle.runs.proofs.run.Symbol.{name as #run}
-use Rattle.host.specs.Answers.{placeOfWriting}
+use Rattle.host.specs.Answers.{place_of_writing}
 use Rattle.host.proofs.values.run_packed.Symbol.{name as #packs}
 use Rattle.host.specs.contracts.board_run.Key.{name as #board-run}
 use Rattle.board.specs.contracts.Board as B
@@ -73,8 +73,8 @@ module _ {M : Type 1} {𝓤 : Ura M} (𝓛 : Logic 𝓤) (at_mem : Memory → SP
   goes-packs n w is =
       qed 𝓛 (‵ ftrue ∷ []) ∵ nothing ! $ owned ! u8 (Is u8) (uint_Makes 𝓛 w8) n _ is $ fjoin ! $ move ! (1 ∷ 0 ∷ []) $ join ! $ nothing ! $ move ! (1 ∷ 0 ∷ []) $ frame ! $ done !
 
-  packed : (n m : ℕ) → ent 𝓤 (ensured 𝓛 packs.ended (packs.clauses 𝓛 at_mem run) tt (n, tt) tt m) (fact 𝓤 (m ≡ answer n (placeOfWriting n) 0))
-  packed n m = ex_e 𝓤 _ (λ ws. snd∗ 𝓤 (sem 𝓛 (lasts packs.ended tt (n, tt) ws)) (fact 𝓤 (m ≡ answer n (placeOfWriting n) 0)))
+  packed : (n m : ℕ) → ent 𝓤 (ensured 𝓛 packs.ended (packs.clauses 𝓛 at_mem run) tt (n, tt) tt m) (fact 𝓤 (m ≡ answer n (place_of_writing n) 0))
+  packed n m = ex_e 𝓤 _ (λ ws. snd∗ 𝓤 (sem 𝓛 (lasts packs.ended tt (n, tt) ws)) (fact 𝓤 (m ≡ answer n (place_of_writing n) 0)))
 
 module _
     {M : Type 1} {𝓤 : Ura M} (𝓛 : Logic 𝓤) (at_mem : Memory → SProp 𝓤) (run : Routine → Fun 𝓤)
@@ -129,8 +129,8 @@ module _
         use0 𝓛 (raw ((Packs 𝓛 at_mem run).pre (to-packs 𝓛 at_mem run n w))) (goes-packs 𝓛 at_mem run n w is) $
         calls_at ! fm (Packs 𝓛 at_mem run) known₁ (to-packs 𝓛 at_mem run n w) (and_then ! (load ! (from ! (stop !)) (look ! 11 refl)) (no_more !)) (λ v.
         use1 𝓛 (later (some (λ (m : ℕ). (‵ ftrue ⊛ ‵ (u64.own_val m (v ∷ []))) ⊛ raw (ensured 𝓛 packs.ended (packs.clauses 𝓛 at_mem run) tt (n, tt) tt m))))
-        (id⊢ 𝓤 _) $ await ! tt $ pick ! (λ m. split ! $ move ! (1 ∷ []) $ use1 𝓛 (raw (fact 𝓤 (m ≡ answer n (placeOfWriting n) 0))) (packed 𝓛 at_mem run n m) $
-        heard ! (m ≡ answer n (placeOfWriting n) 0) (λ p. split ! $ drop ! $
+        (id⊢ 𝓤 _) $ await ! tt $ pick ! (λ m. split ! $ move ! (1 ∷ []) $ use1 𝓛 (raw (fact 𝓤 (m ≡ answer n (place_of_writing n) 0))) (packed 𝓛 at_mem run n m) $
+        heard ! (m ≡ answer n (place_of_writing n) 0) (λ p. split ! $ drop ! $
         peeks ! u64 (Is u64) (shows 𝓛 u64) m (v ∷ []) (λ fits. land ! (from ! (stop !)) (init ! 19 refl ((uint_Lawful 𝓛 w64).typed m _ fits).0) $
         returns ! (look ! 19 refl) $ forget ! 5 refl $ forget ! 7 refl $ forget ! 9 refl $ forget ! 11 refl $ forget ! 13 refl $ forget ! 15 refl $ forget ! 17 refl $ forget ! 19 refl $
         move ! (19 ∷ 20 ∷ []) $ free1 ! $ move ! (17 ∷ 18 ∷ []) $ free1 ! $ move ! (15 ∷ 16 ∷ []) $ free1 ! $ move ! (13 ∷ 14 ∷ []) $ free1 ! $ move ! (11 ∷ 12 ∷ []) $ free1 ! $

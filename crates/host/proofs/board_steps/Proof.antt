@@ -1,6 +1,6 @@
 use mathlib.Core.Path.{refl}
 use native.Mathlib.Omega.{arith}
-use Rattle.host.proofs.Bounds.{steps-small, packs}
+use Rattle.host.proofs.Bounds.{steps_small, packs}
 use borrow.Author.Rules.{rules}
 use Rattle.host.proofs.board_steps.Statement.{statement}
 use Rattle.host.proofs.board_steps.Tie as tie
@@ -12,7 +12,7 @@ place-of-requires : tie.Need-place-of-requires
 place-of-requires c κs = search rules
 
 cast-packed : tie.Need-overflow-cast-packed
-cast-packed c = let l = steps-small _ c.before.before.steps.ensures in record { fits = omega arith }
+cast-packed c = let l = steps_small _ c.before.before.steps.ensures in record { fits = omega arith }
 
 packed-requires : tie.Need-packed-requires
 packed-requires c κs = search rules

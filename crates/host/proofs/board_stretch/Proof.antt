@@ -1,6 +1,6 @@
 use mathlib.Core.Path.{refl}
 use native.Mathlib.Omega.{arith}
-use Rattle.boardfile.proofs.Asking.{bounds-small}
+use Rattle.boardfile.proofs.Asking.{bounds_small}
 use Rattle.host.proofs.Bounds.{packs}
 use borrow.Author.Rules.{rules}
 use Rattle.host.proofs.board_stretch.Statement.{statement}
@@ -13,16 +13,16 @@ place-of-requires : tie.Need-place-of-requires
 place-of-requires c κs = search rules
 
 cast-packed : tie.Need-overflow-cast-packed
-cast-packed c = let l = bounds-small c.before.before.bounds.ensures in record { fits = omega arith }
+cast-packed c = let l = bounds_small c.before.before.bounds.ensures in record { fits = omega arith }
 
 packed-requires : tie.Need-packed-requires
 packed-requires c κs = search rules
 
 mul-result : tie.Need-overflow-mul-result
-mul-result c = let l = bounds-small c.before.before.before.bounds.ensures in record { fits = omega arith }
+mul-result c = let l = bounds_small c.before.before.before.bounds.ensures in record { fits = omega arith }
 
 add-result : tie.Need-overflow-add-result
-add-result c = let l = bounds-small c.before.before.before.bounds.ensures in record { fits = omega (arith, c.packed.ensures, c.before.before.place_of.type-inv, c.before.before.before.bounds.type-inv) }
+add-result c = let l = bounds_small c.before.before.before.bounds.ensures in record { fits = omega (arith, c.packed.ensures, c.before.before.place_of.type-inv, c.before.before.before.bounds.type-inv) }
 
 returns : tie.Need-returns
 returns c = let q = c.before.before.before.bounds in

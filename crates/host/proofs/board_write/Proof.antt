@@ -42,7 +42,7 @@ use denote.Exit.{yes}
 use denote.Triple.Clauses.{ensured, lasts}
 use Rattle.board.specs.declared.Board.{Board}
 use Rattle.board.specs.contracts.Board as B
-use Rattle.board.proofs.Fields.{Views, Unchanged, viewsOf, viewPointersOf, others, views-fields, hides-fields}
+use Rattle.board.proofs.Fields.{Views, Unchanged, views_of, view_pointers_of, others, views_fields, hides_fields}
 use Rattle.board.proofs.Board.TheLaws as B'
 use Rattle.host.specs.Answers.{WritePacked}
 use Rattle.host.specs.contracts.write_packed as write-packed
@@ -95,10 +95,10 @@ module _
   passed = owns (MutSlice (named 1) κ₁ u8 ∷ usize ∷ []) (out, (n, tt)) (mut_slice_vals out, (uint_vals w64 n, tt))
 
   abbrev to : (k : Views) → Args write-packed.signature (k.lifetime ∷ [], (κ₁, tt))
-  to k = viewsOf k h b o (out, (n, tt))
+  to k = views_of k h b o (out, (n, tt))
 
   abbrev to_write : Views → (Does 𝓛 at_mem run).Ghost
-  to_write k = (((k.lifetime ∷ [], (κ₁, tt)), (full_share, (q₁, tt)), tt, to k, viewPointersOf h b o (shr_slice_vals out, (uint_vals w64 n, tt))), tt)
+  to_write k = (((k.lifetime ∷ [], (κ₁, tt)), (full_share, (q₁, tt)), tt, to k, view_pointers_of h b o (shr_slice_vals out, (uint_vals w64 n, tt))), tt)
 
   module _ (C : Calls 𝓤 H) (Λ : Loops 𝓤 H) (fm : FmC 𝓤 H 𝓛.laws C) (known : Triple 𝓤 (C #write-packed) (Does 𝓛 at_mem run)) where
     walk : ent 𝓤 (on_entry 𝓛 board-write.signature (κ, (κ₁, tt)) (q, (q₁, tt)) x at)
@@ -113,7 +113,7 @@ module _
         -- a share of the board, with its tables lent
         move ! (26 ∷ 27 ∷ []) $ shr_bor-open ! tt
         (part-halves 𝓛 B.the_row (Is B.the_row) (shows 𝓛 B.the_row) (LL.vals B.the_type B'.the_laws) (LL.tells B.the_type B'.the_laws) (LL.copy B.the_type B'.the_copy 𝓛) h b o) (λ q'.
-        move ! (1 ∷ 29 ∷ []) $ views-fields ! tt q' h b o passed (λ k fits.
+        move ! (1 ∷ 29 ∷ []) $ views_fields ! tt q' h b o passed (λ k fits.
         -- [the tables' token; what they, the buffer and the place own; the lender's parts; the way back; live; the open borrow; _12; …; _11; …; _10; …; _9; …; _8; …; _7; …; _6; …; _5; …; _4; …; _3; …; _2; …; _1; …; room for _0; …; the buffer's token]
         assigns ! (of_opd ! (load ! (from ! (hop ! (look ! 28 refl) (fld ! refl (stop !)))) (look ! 4 refl))) (from ! (stop !)) (init ! 22 refl (tt, record { fits = fits })) $
         assigns ! (addr ! (from ! (hop ! (look ! 28 refl) (fld ! refl (stop !))))) (from ! (stop !)) (init ! 20 refl (tt, tt)) $
@@ -141,7 +141,7 @@ module _
         -- [the result; the tokens; the last buffer; …; the lender's parts; the way back; live; the open borrow; _12; …]
         peeks ! u64 (Is u64) (shows 𝓛 u64) m (w ∷ []) (λ is. land ! (from ! (stop !)) (init ! 32 refl ((uint_Lawful 𝓛 w64).typed m _ is).0) $
         -- the tables come back, and the share is put back
-        move ! (1 ∷ []) $ split ! $ move ! (0 ∷ 5 ∷ 6 ∷ 7 ∷ []) $ hides-fields ! tt k q' h b o $ move ! (5 ∷ 0 ∷ []) $ obor_close ! tt $
+        move ! (1 ∷ []) $ split ! $ move ! (0 ∷ 5 ∷ 6 ∷ 7 ∷ []) $ hides_fields ! tt k q' h b o $ move ! (5 ∷ 0 ∷ []) $ obor_close ! tt $
         -- [the board's borrow; its token; the buffer's token; the result; the last buffer; …; _12; …]
         returns ! (look ! 30 refl) $ forget ! 6 refl $ forget ! 8 refl $ forget ! 10 refl $ forget ! 12 refl $ forget ! 14 refl $ forget ! 16 refl $ forget ! 18 refl $ forget ! 20 refl $ forget ! 22 refl $ forget ! 24 refl $ forget ! 26 refl $ forget ! 28 refl $ forget ! 30 refl $
         move ! (30 ∷ 31 ∷ []) $ free1 ! $ move ! (28 ∷ 29 ∷ []) $ free1 ! $ move ! (26 ∷ 27 ∷ []) $ free1 ! $ move ! (24 ∷ 25 ∷ []) $ free1 ! $ move ! (22 ∷ 23 ∷ []) $ free1 ! $ move ! (20 ∷ 21 ∷ []) $ free1 ! $ move ! (18 ∷ 19 ∷ []) $ free1 ! $ move ! (16 ∷ 17 ∷ []) $ free1 ! $ move ! (14 ∷ 15 ∷ []) $ free1 ! $ move ! (12 ∷ 13 ∷ []) $ free1 ! $ move ! (10 ∷ 11 ∷ []) $ free1 ! $ move ! (8 ∷ 9 ∷ []) $ free1 ! $ move ! (6 ∷ 7 ∷ []) $ free1 ! $ free0 ! $

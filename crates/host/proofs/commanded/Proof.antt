@@ -3,7 +3,7 @@ use Prim.Native.Nat.{ℕ}
 use native.Mathlib.Omega.{arith}
 use borrow.Author.Rules.{rules}
 use Rattle.answers.specs.Packing.{answer_of}
-use Rattle.boardfile.proofs.Commanding.{command-short}
+use Rattle.boardfile.proofs.Commanding.{command_short}
 use Rattle.host.proofs.commanded.Statement.{statement}
 use Rattle.host.proofs.commanded.Tie as tie
 
@@ -14,7 +14,7 @@ place-number-requires : tie.Need-place-number-requires
 place-number-requires c κs = search rules
 
 cast-answered-at : tie.Need-overflow-cast-answered-at
-cast-answered-at c = let l = command-short c.before.before.before.before.command.ensures in record { fits = omega arith }
+cast-answered-at c = let l = command_short c.before.before.before.before.command.ensures in record { fits = omega arith }
 
 answered-at-requires : tie.Need-answered-at-requires
 answered-at-requires c κs = search rules

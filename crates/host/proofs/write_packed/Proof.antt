@@ -3,7 +3,7 @@ use Prim.Native.Nat.{ℕ}
 use native.Mathlib.Omega.{arith}
 use borrow.Author.Rules.{rules}
 use Rattle.answers.specs.Packing.{answer}
-use Rattle.host.proofs.Bounds.{write-small}
+use Rattle.host.proofs.Bounds.{write_small}
 use Rattle.host.proofs.write_packed.Statement.{statement}
 use Rattle.host.proofs.write_packed.Tie as tie
 
@@ -14,7 +14,7 @@ place-of-writing-requires : tie.Need-place-of-writing-requires
 place-of-writing-requires c κs = search rules
 
 cast-packed : tie.Need-overflow-cast-packed
-cast-packed c = let l = write-small c.before.before.before.before.write-of.ensures in record { fits = omega arith }
+cast-packed c = let l = write_small c.before.before.before.before.write-of.ensures in record { fits = omega arith }
 
 packed-requires : tie.Need-packed-requires
 packed-requires c κs = search rules

@@ -4,8 +4,8 @@ use native.Mathlib.Omega.{arith}
 use Prim.Native.Nat.{ℕ}
 use lib.ListN.{length, drop, length-replicate}
 use borrow.Author.Tests.{not-true, not-false}
-use Rattle.sets.proofs.Bools.{false-no}
-use Rattle.jobs.proofs.Deciding.{starts-empty, starts}
+use Rattle.sets.proofs.Bools.{false_no}
+use Rattle.jobs.proofs.Deciding.{starts_empty, starts}
 use borrow.Author.Rules.{rules}
 use Rattle.jobs.proofs.start.Statement.{statement}
 use Rattle.jobs.proofs.start.Tie as tie
@@ -14,13 +14,13 @@ clear-requires : tie.Need-clear-requires
 clear-requires c κs = search rules
 
 returns : tie.Need-returns
-returns c = let e = c.before.clear.ensures in starts-empty (λ f. omega (arith, f.few, c.if1.true)) e.0 e.1.0 e.1.1
+returns c = let e = c.before.clear.ensures in starts_empty (λ f. omega (arith, f.few, c.if1.true)) e.0 e.1.0 e.1.1
 
 all-roles-requires : tie.Need-all-roles-requires
 all-roles-requires c κs = search rules
 
 returns-2 : tie.Need-returns-2
-returns-2 c = let e = c.before.before.before.clear.ensures in starts-empty (λ f. false-no (not-true _ c.if2.true) (c.before.all-roles.ensures.1 f.roles)) e.0 e.1.0 e.1.1
+returns-2 c = let e = c.before.before.before.clear.ensures in starts_empty (λ f. false_no (not-true _ c.if2.true) (c.before.all-roles.ensures.1 f.roles)) e.0 e.1.0 e.1.1
 
 copy-requires : tie.Need-copy-requires
 copy-requires c κs = (omega (arith, c.before.before.before.if1.false), ap length c.before.before.before.before.clear.ensures.0 ∙ length-replicate {A = ℕ} 1024 64)

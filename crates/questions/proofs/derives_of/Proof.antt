@@ -1,8 +1,8 @@
 use borrow.Author.Tests.{not-true, not-false}
 use borrow.Author.Rules.{rules}
 use Rattle.board.proofs.Looking.{holds, fails}
-use Rattle.questions.proofs.Viewing.{derives-viewed}
-use Rattle.questions.proofs.Unsound.{answer-unsound}
+use Rattle.questions.proofs.Viewing.{derives_viewed}
+use Rattle.questions.proofs.Unsound.{answer_unsound}
 use Rattle.questions.proofs.derives_of.Statement.{statement}
 use Rattle.questions.proofs.derives_of.Tie as tie
 
@@ -10,13 +10,13 @@ sound-of-requires : tie.Need-sound-of-requires
 sound-of-requires c κs = search rules
 
 returns : tie.Need-returns
-returns c = answer-unsound _ _ _ (fails c.before.sound-of.ensures (not-true _ c.if1.true))
+returns c = answer_unsound _ _ _ (fails c.before.sound-of.ensures (not-true _ c.if1.true))
 
 derives-trusting-requires : tie.Need-derives-trusting-requires
 derives-trusting-requires c κs = search rules
 
 returns-2 : tie.Need-returns-2
-returns-2 c = derives-viewed (holds c.before.before.sound-of.ensures (not-false _ c.before.if1.false)) _ _ c.derives-trusting.ensures
+returns-2 c = derives_viewed (holds c.before.before.sound-of.ensures (not-false _ c.before.if1.false)) _ _ c.derives-trusting.ensures
 
 pub derives-of-spec : {M : Type 1} → statement M
 derives-of-spec = tie.close (tie.spec sound-of-requires returns derives-trusting-requires returns-2)

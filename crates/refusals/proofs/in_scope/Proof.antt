@@ -3,7 +3,7 @@ use mathlib.Core.Bool.{Bool, ◌||◌}
 use native.Mathlib.Omega.{arith}
 use borrow.Author.Rules.{rules}
 use Rattle.sets.specs.Sets.{same?}
-use Rattle.refusals.proofs.Trying.{code-low, scoped-1, scoped-2, scoped-3, scoped-6}
+use Rattle.refusals.proofs.Trying.{code_low, scoped_1, scoped_2, scoped_3, scoped_6}
 use Rattle.refusals.proofs.in_scope.Statement.{statement}
 use Rattle.refusals.proofs.in_scope.Tie as tie
 
@@ -11,10 +11,10 @@ union-requires : tie.Need-union-requires
 union-requires c κs = search rules
 
 returns : tie.Need-returns
-returns c = let s = c.before.before.before in λ x. c.union.ensures x ∙ scoped-1 s.args.c s.requires x c.before.if1.true
+returns c = let s = c.before.before.before in λ x. c.union.ensures x ∙ scoped_1 s.args.c s.requires x c.before.if1.true
 
 returns-2 : tie.Need-returns-2
-returns-2 c = let s = c.before.before.before.before in λ x. scoped-2 s.args.c s.requires x c.if2.true
+returns-2 c = let s = c.before.before.before.before in λ x. scoped_2 s.args.c s.requires x c.if2.true
 
 cast-single : tie.Need-overflow-cast-single
 cast-single c = search rules
@@ -30,12 +30,12 @@ with-requires c κs = search rules
 
 returns-3 : tie.Need-returns-3
 returns-3 c = let s = c.before.before.before.before.before.before.before.before in
-    λ x. c.before.before.single.ensures x ∙ scoped-6 s.args.c s.requires x c.if3.true
+    λ x. c.before.before.single.ensures x ∙ scoped_6 s.args.c s.requires x c.if3.true
 
 returns-4 : tie.Need-returns-4
 returns-4 c = let s = c.before.before.before.before.before.before.before.before.before.before in
     λ x. c.with.ensures x ∙ ap (λ (p : Bool). p || same? s.args.c.junior x) (c.before.before.before.before.single.ensures x)
-    ∙ scoped-3 s.args.c s.requires x (omega (arith, code-low s.args.c s.requires), omega arith)
+    ∙ scoped_3 s.args.c s.requires x (omega (arith, code_low s.args.c s.requires), omega arith)
 
 pub in-scope-spec : {M : Type 1} → statement M
 in-scope-spec =

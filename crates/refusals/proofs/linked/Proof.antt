@@ -1,6 +1,6 @@
 use mathlib.Core.Path.{◌∙◌}
 use borrow.Author.Rules.{rules}
-use Rattle.refusals.proofs.Trying.{role-lt}
+use Rattle.refusals.proofs.Trying.{role_lt}
 use Rattle.refusals.proofs.linked.Statement.{statement}
 use Rattle.refusals.proofs.linked.Tie as tie
 
@@ -11,13 +11,13 @@ mul-union : tie.Need-overflow-mul-union
 mul-union c = search rules
 
 element-copy-out-union : tie.Need-element-copy-out-union
-element-copy-out-union c = role-lt _ c.before.requires
+element-copy-out-union c = role_lt _ c.before.requires
 
 mul-union-2 : tie.Need-overflow-mul-union-2
 mul-union-2 c = search rules
 
 element-copy-out-union-2 : tie.Need-element-copy-out-union-2
-element-copy-out-union-2 c = role-lt _ c.before.before.requires
+element-copy-out-union-2 c = role_lt _ c.before.before.requires
 
 union-requires : tie.Need-union-requires
 union-requires c κs = search rules

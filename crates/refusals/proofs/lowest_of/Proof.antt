@@ -2,9 +2,9 @@ use mathlib.Core.Path.{refl, ap}
 use mathlib.Core.Bool.{not}
 use borrow.Author.Tests.{ne_eqb}
 use borrow.Author.Rules.{rules}
-use Rattle.sets.proofs.Bools.{false-no}
+use Rattle.sets.proofs.Bools.{false_no}
 use Rattle.sets.proofs.Members.{picked, nobody}
-use Rattle.refusals.proofs.Trying.{some-member}
+use Rattle.refusals.proofs.Trying.{some_member}
 use Rattle.refusals.proofs.lowest_of.Statement.{statement}
 use Rattle.refusals.proofs.lowest_of.Tie as tie
 
@@ -20,8 +20,8 @@ enum_told c = search rules
 returns : tie.Need-returns
 returns c =
     let s = c.before.before.before in
-    let w = (some-member s.args.these s.ranges.these.fits).0 (ap not (ne_eqb s.args.these 0 s.requires)) in
-    absurd (false-no ((nobody c.enum_told.given.1 c.before.before.lowest.ensures).none w.0) w.1)
+    let w = (some_member s.args.these s.ranges.these.fits).0 (ap not (ne_eqb s.args.these 0 s.requires)) in
+    absurd (false_no ((nobody c.enum_told.given.1 c.before.before.lowest.ensures).none w.0) w.1)
 
 returns-2 : tie.Need-returns-2
 returns-2 c = (picked c.before.role.given.1 c.before.before.before.lowest.ensures, refl)

@@ -1,7 +1,7 @@
 use mathlib.Core.Path.{◌∙◌}
 use native.Mathlib.Omega.{arith}
 use borrow.Author.Rules.{rules}
-use Rattle.refusals.proofs.Trying.{needed-is, missing-is}
+use Rattle.refusals.proofs.Trying.{needed_is, missing_is}
 use Rattle.refusals.proofs.missing.Statement.{statement}
 use Rattle.refusals.proofs.missing.Tie as tie
 
@@ -26,9 +26,9 @@ minus-requires c κs = search rules
 returns : tie.Need-returns
 returns c = let s = c.before.before.before.before.before.before in
     let a = s.args in
-    missing-is a.c c.before.with.result c.minus.result a.live (omega (arith, c.minus.type-inv))
+    missing_is a.c c.before.with.result c.minus.result a.live (omega (arith, c.minus.type-inv))
     (λ x. c.before.with.ensures x
-    ∙ rw (c.before.before.before.union.ensures x, c.before.before.before.before.before.in_scope.ensures x, c.before.before.before.before.in-strict.ensures x) (needed-is a.c s.requires x))
+    ∙ rw (c.before.before.before.union.ensures x, c.before.before.before.before.before.in_scope.ensures x, c.before.before.before.before.in-strict.ensures x) (needed_is a.c s.requires x))
     c.minus.ensures
 
 pub missing-spec : {M : Type 1} → statement M

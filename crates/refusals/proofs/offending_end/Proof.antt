@@ -2,14 +2,14 @@ use mathlib.Core.Path.{sym, ◌∙◌}
 use Prim.Native.Nat.{◌≤◌}
 use native.Mathlib.Omega.{arith}
 use borrow.Author.Rules.{rules}
-use Rattle.refusals.proofs.Blaming.{named-only, named-senior, named-edge, named-junior}
-use Rattle.refusals.proofs.Trying.{code-low, role-lt, junior-lt}
+use Rattle.refusals.proofs.Blaming.{named_only, named_senior, named_edge, named_junior}
+use Rattle.refusals.proofs.Trying.{code_low, role_lt, junior_lt}
 use Rattle.refusals.proofs.offending_end.Statement.{statement}
 use Rattle.refusals.proofs.offending_end.Tie as tie
 
 -- the command names its role
 low : (s : tie.Start) → 2 ≤ s.args.c.code
-low s = omega (arith, code-low s.args.c s.requires.0, s.requires.1.0)
+low s = omega (arith, code_low s.args.c s.requires.0, s.requires.1.0)
 
 cast-role : tie.Need-overflow-cast-role
 cast-role c = search rules
@@ -20,7 +20,7 @@ cast-junior c = search rules
 returns : tie.Need-returns
 returns c =
     let s = c.before.before.before.before in
-    (role-lt s.args.c s.requires.0, named-only s.args.all s.args.c (low s) s.requires.1.1 c.if1.true)
+    (role_lt s.args.c s.requires.0, named_only s.args.all s.args.c (low s) s.requires.1.1 c.if1.true)
 
 has-requires : tie.Need-has-requires
 has-requires c κs = search rules
@@ -30,12 +30,12 @@ returns-2 c =
     let s = c.before.before.before.before.before.before in
     let edge = c.before.before.if1.false in
     let inside = sym c.before.has.ensures ∙ c.if2.true in
-    (junior-lt s.args.c s.requires.0 (named-edge s.args.all s.args.c (low s) s.requires.1.1 edge inside), named-junior s.args.all s.args.c (low s) s.requires.1.1 edge inside)
+    (junior_lt s.args.c s.requires.0 (named_edge s.args.all s.args.c (low s) s.requires.1.1 edge inside), named_junior s.args.all s.args.c (low s) s.requires.1.1 edge inside)
 
 returns-3 : tie.Need-returns-3
 returns-3 c =
     let s = c.before.before.before.before.before.before in
-    (role-lt s.args.c s.requires.0, named-senior s.args.all s.args.c (low s) s.requires.1.1 c.before.before.if1.false (sym c.before.has.ensures ∙ c.if2.false))
+    (role_lt s.args.c s.requires.0, named_senior s.args.all s.args.c (low s) s.requires.1.1 c.before.before.if1.false (sym c.before.has.ensures ∙ c.if2.false))
 
 pub offending-end-spec : {M : Type 1} → statement M
 offending-end-spec =

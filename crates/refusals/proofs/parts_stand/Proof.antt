@@ -2,8 +2,8 @@ use mathlib.Core.Path.{sym, ap, ap₂, ◌∙◌}
 use mathlib.Core.Bool.{not, ◌&&◌, ◌||◌}
 use borrow.Author.Rules.{rules}
 use Rattle.sets.specs.Sets.{bit}
-use Rattle.hierarchy.specs.Tables.{row, hasA}
-use Rattle.refusals.proofs.Trying.{role-lt}
+use Rattle.hierarchy.specs.Tables.{row, has_a}
+use Rattle.refusals.proofs.Trying.{role_lt}
 use Rattle.refusals.proofs.parts_stand.Statement.{statement}
 use Rattle.refusals.proofs.parts_stand.Tie as tie
 
@@ -17,7 +17,7 @@ mul-part-stands : tie.Need-overflow-mul-part-stands
 mul-part-stands c = search rules
 
 element-copy-out-part-stands : tie.Need-element-copy-out-part-stands
-element-copy-out-part-stands c = role-lt _ c.before.before.requires
+element-copy-out-part-stands c = role_lt _ c.before.before.requires
 
 part-stands-requires : tie.Need-part-stands-requires
 part-stands-requires c κs = search rules
@@ -26,7 +26,7 @@ mul-part-stands-2 : tie.Need-overflow-mul-part-stands-2
 mul-part-stands-2 c = search rules
 
 element-copy-out-part-stands-2 : tie.Need-element-copy-out-part-stands-2
-element-copy-out-part-stands-2 c = role-lt _ c.before.before.before.before.before.requires
+element-copy-out-part-stands-2 c = role_lt _ c.before.before.before.before.before.requires
 
 part-stands-requires-2 : tie.Need-part-stands-requires-2
 part-stands-requires-2 c κs = search rules
@@ -36,7 +36,7 @@ returns c = ap₂ ◌&&◌ (sym c.before.before.if1.true ∙ c.before.before.bef
 
 returns-2 : tie.Need-returns-2
 returns-2 c = let a = c.before.before.before.before.before.args in
-    ap (λ p. p && (not (hasA a.c.kind) || bit (row a.a.now a.c.role) a.c.junior)) (sym c.if1.false ∙ c.before.part-stands.ensures)
+    ap (λ p. p && (not (has_a a.c.kind) || bit (row a.a.now a.c.role) a.c.junior)) (sym c.if1.false ∙ c.before.part-stands.ensures)
 
 pub parts-stand-spec : {M : Type 1} → statement M
 parts-stand-spec =

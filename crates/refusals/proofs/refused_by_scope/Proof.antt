@@ -7,7 +7,7 @@ use borrow.Author.Rules.{rules}
 use Rattle.hierarchy.specs.Views.{ScopeBy}
 use Rattle.board.proofs.Looking.{holds, fails}
 use Rattle.refusals.specs.Refusals.{InScope}
-use Rattle.refusals.proofs.Trying.{in-scope-alike, scope-holds, scope-fails}
+use Rattle.refusals.proofs.Trying.{in_scope_alike, scope_holds, scope_fails}
 use Rattle.refusals.proofs.refused_by_scope.Statement.{statement}
 use Rattle.refusals.proofs.refused_by_scope.Tie as tie
 
@@ -15,7 +15,7 @@ abbrev In : tie.Start → ℕ → ℕ → Type 0
 In s = ScopeBy s.args.down.now s.args.up.now
 
 scope-at : (c : tie.After-within-scope) → (c.within-scope.result ≡ true) ↔ InScope (In c.before.before.before) c.before.before.before.args.c
-scope-at c = Iff.trans c.within-scope.ensures (in-scope-alike c.before.before.before.args.c c.before.scope.ensures)
+scope-at c = Iff.trans c.within-scope.ensures (in_scope_alike c.before.before.before.args.c c.before.scope.ensures)
 
 cast-scope : tie.Need-overflow-cast-scope
 cast-scope c = search rules
@@ -30,13 +30,13 @@ plain-requires : tie.Need-plain-requires
 plain-requires c κs = search rules
 
 returns : tie.Need-returns
-returns c = scope-holds _ _ _ (holds (scope-at c.before.before) c.before.if1.true) c.plain.ensures
+returns c = scope_holds _ _ _ (holds (scope-at c.before.before) c.before.if1.true) c.plain.ensures
 
 blame-requires : tie.Need-blame-requires
 blame-requires c κs = (c.before.before.before.before.requires, (c.before.before.scope.ensures, fails c.before.within-scope.ensures c.if1.false))
 
 returns-2 : tie.Need-returns-2
-returns-2 c = scope-fails _ _ _ (fails (scope-at c.before.before) c.before.if1.false) c.blame.ensures
+returns-2 c = scope_fails _ _ _ (fails (scope-at c.before.before) c.before.if1.false) c.blame.ensures
 
 pub refused-by-scope-spec : {M : Type 1} → statement M
 refused-by-scope-spec =

@@ -3,7 +3,7 @@ use mathlib.Core.Logic.Iff
 use borrow.Author.Tests.{not-true, not-false}
 use borrow.Author.Rules.{rules}
 use Rattle.board.proofs.Looking.{never, holds, fails}
-use Rattle.refusals.proofs.Trying.{within-is}
+use Rattle.refusals.proofs.Trying.{within_is}
 use Rattle.refusals.proofs.within_scope.Statement.{statement}
 use Rattle.refusals.proofs.within_scope.Tie as tie
 
@@ -34,7 +34,7 @@ returns-2 c = let e = c.before.before.before.before in
     let i = e.before.before in
     let s = i.before in
     Iff.trans c.within2.ensures
-    (within-is s.args.scope s.args.c i.in_scope.result c.before.before.before.in-strict.result c.before.without.result s.requires i.in_scope.ensures c.before.before.before.in-strict.ensures
+    (within_is s.args.scope s.args.c i.in_scope.result c.before.before.before.in-strict.result c.before.without.result s.requires i.in_scope.ensures c.before.before.before.in-strict.ensures
     c.before.without.ensures (holds e.before.within.ensures (not-false _ e.if1.false)))
 
 pub within-scope-spec : {M : Type 1} → statement M

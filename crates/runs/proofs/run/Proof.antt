@@ -52,7 +52,7 @@ use denote.Triple.Clauses.{ensured, lasts}
 use Rattle.board.specs.declared.Board.{Board}
 use Rattle.board.specs.declared.Command.{Command}
 use Rattle.board.specs.declared.answers.Answer.{Answer}
-use Rattle.board.proofs.Values.{ofCommand}
+use Rattle.board.proofs.Values.{of_command}
 use Rattle.commands.specs.Commands.{Decided}
 use Rattle.commands.proofs.lent.apply_in_place.Symbol.{name as #apply}
 use Rattle.answers.specs.Packing.{answer_of}
@@ -60,7 +60,7 @@ use Rattle.answers.proofs.answered.Symbol.{name as #answered}
 use Rattle.runs.specs.Runs.{RunAnswer}
 use Rattle.runs.proofs.Running.{too_short}
 use Rattle.runs.proofs.Turns.{nobody, State, Nearer, Nearer-wf, start, turned, nearer, over}
-use Rattle.runs.proofs.Branching.{guards, goes-round}
+use Rattle.runs.proofs.Branching.{guards, goes_round}
 use Rattle.runs.specs.contracts.run.Key.{name as #run}
 use Rattle.runs.proofs.run.Code.Mir.{turn-1, t-6, t-7}
 use denote.Struct.Laws as LL
@@ -96,9 +96,9 @@ module _ {M : Type 1} {𝓤 : Ura M} (𝓛 : Logic 𝓤) (at_mem : Memory → SP
   Answered = triple_of 𝓛 answered.signature (answered.spec 𝓛 at_mem run)
 
   abbrev to-apply : ℕ → Bor Board → Command → Apply.Ghost
-  to-apply ν r c = (((ν ∷ [], tt), (full_share, tt), tt, (r, (c, tt)), (shr_vals r, (ofCommand c ∷ [], tt))), tt)
+  to-apply ν r c = (((ν ∷ [], tt), (full_share, tt), tt, (r, (c, tt)), (shr_vals r, (of_command c ∷ [], tt))), tt)
 
-  goes-apply : (ν : ℕ) (r : MutBor Board) (c : Command) → Is Cm.the_row c (ofCommand c ∷ [])
+  goes-apply : (ν : ℕ) (r : MutBor Board) (c : Command) → Is Cm.the_row c (of_command c ∷ [])
       → ent 𝓤 (sep 𝓤 (A.lft (ν ∷ []) full_share) (sem 𝓛 ((MutRef (named 0) (ν ∷ []) B.the_row).own_val r (mut_vals r)))) (Apply.pre (to-apply ν r c))
   goes-apply ν r c gc =
       qed 𝓛 (‵ (flft (ν ∷ []) full_share) ∷ ‵ ((MutRef (named 0) (ν ∷ []) B.the_row).own_val r (mut_vals r)) ∷ []) ∵ nothing ! $ move ! (1 ∷ 0 ∷ []) $ join ! $ move ! (1 ∷ []) $
@@ -215,7 +215,7 @@ module _
         unfolding after_turn
         turns s =
             assigns ! (bin ! (load ! (from ! (stop !)) (look ! 32 refl)) (load ! (from ! (stop !)) (look ! 34 refl)) tt) (from ! (stop !)) (init ! 24 refl (tt, tt)) $
-            goes-round ! (load ! (from ! (stop !)) (look ! 24 refl))
+            goes_round ! (load ! (from ! (stop !)) (look ! 24 refl))
             (λ less. let lt = ltb→lt s.k (length cs) less in
             -- _10 is the board's address again, and the command at k is copied to _13
             assigns ! (addr ! (from ! (hop ! (look ! 40 refl) (stop !)))) (from ! (stop !)) (init ! 22 refl (tt, tt)) $
@@ -225,7 +225,7 @@ module _
             move ! (4 ∷ []) $ elem_out ! Cm.the_row (Is Cm.the_row) (shows 𝓛 Cm.the_row) (LL.vals Cm.the_type Cm'.the_laws) (LL.tells Cm.the_type Cm'.the_laws) q' cs s.k nobody b₁ o₁ lt (λ gc.
             assigns ! (of_opd ! (load ! (from ! (hop ! (look ! 20 refl) (stop !))) (look_raw ! 0 refl)))
             (from ! (stop !)) (init ! 18 refl ((LL.lawful Cm.the_type Cm'.the_laws 𝓛).typed (c s) _ gc).0) $
-            elem_back ! Cm.the_row q' cs s.k nobody (ofCommand (c s) ∷ []) b₁ o₁ lt $
+            elem_back ! Cm.the_row q' cs s.k nobody (of_command (c s) ∷ []) b₁ o₁ lt $
             -- [the commands; the board; its open borrow, obs, auth; …]: the board is lent for a lifetime ν of the call
             lft_new ! tt (λ ν. move ! (2 ∷ []) $
             use1 𝓛 (later (some (λ (name : GName). ‵ ((MutRef (named 0) (ν ∷ []) B.the_row).own_val (xb name s.board) (vptr b o ∷ [])) ⊛ ‵ (flent (ν ∷ []) (Body (mem B.the_row) b o name)))))

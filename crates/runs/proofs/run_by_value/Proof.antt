@@ -1,6 +1,6 @@
 use Prim.Native.Nat.{◌-◌}
 use borrow.Author.Rules.{rules}
-use Rattle.runs.proofs.Turns.{nobody, evening-too-long, Halfway, halfway-begins, halfway-on, halfway-over}
+use Rattle.runs.proofs.Turns.{nobody, evening_too_long, Halfway, halfway_begins, halfway_on, halfway_over}
 use Rattle.runs.proofs.run_by_value.Statement.{statement}
 use Rattle.runs.proofs.run_by_value.Tie as tie
 
@@ -14,10 +14,10 @@ blank-requires : tie.Need-blank-requires invariant-loop decreases-loop
 blank-requires c κs = search rules
 
 returns : tie.Need-returns invariant-loop decreases-loop
-returns c = evening-too-long _ _ c.if1.true c.before.blank.ensures
+returns c = evening_too_long _ _ c.if1.true c.before.blank.ensures
 
 loop-holds : tie.Need-loop-init invariant-loop decreases-loop
-loop-holds c = halfway-begins _ _ c.if1.false c.before.blank.ensures
+loop-holds c = halfway_begins _ _ c.if1.false c.before.blank.ensures
 
 mul-step : tie.Need-overflow-mul-step invariant-loop decreases-loop
 mul-step c = search rules
@@ -46,11 +46,11 @@ loop-less c = search rules
 loop-again : tie.Need-loop-preserved invariant-loop decreases-loop
 loop-again c =
     let start = c.before.before.before.before.before.before.before.before in
-    halfway-on start.args.t2 nobody (search rules) c.before.before.before.before.loop-test.true c.before.before.before.before.before.loop.invariant c.before.before.step.ensures
+    halfway_on start.args.t2 nobody (search rules) c.before.before.before.before.loop-test.true c.before.before.before.before.before.loop.invariant c.before.before.step.ensures
     c.before.answered.ensures
 
 returns-2 : tie.Need-returns-2 invariant-loop decreases-loop
-returns-2 c = halfway-over c.loop-test.false c.before.loop.invariant
+returns-2 c = halfway_over c.loop-test.false c.before.loop.invariant
 
 pub run-by-value-spec : {M : Type 1} → statement M
 run-by-value-spec =

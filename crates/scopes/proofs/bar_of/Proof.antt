@@ -3,12 +3,12 @@ use mathlib.Core.Logic.{inl, inr}
 use native.Mathlib.Omega.{arith}
 use borrow.Author.Rules.{rules}
 use borrow.Author.Tests.{not-true, not-false}
-use Rattle.sets.specs.Sets.{◌isIn◌}
-use Rattle.sets.proofs.Bools.{false-no}
+use Rattle.sets.specs.Sets.{◌is_in◌}
+use Rattle.sets.proofs.Bools.{false_no}
 use Rattle.sets.proofs.Members.{picked, nobody}
 use Rattle.hierarchy.specs.Tables.{row}
-use Rattle.hierarchy.specs.Views.{OutOfScopeBy.not-derived, OutOfScopeBy.in-the-way}
-use Rattle.hierarchy.proofs.Managing.{bar-none, bar-way}
+use Rattle.hierarchy.specs.Views.{OutOfScopeBy.not_derived, OutOfScopeBy.in_the_way}
+use Rattle.hierarchy.proofs.Managing.{bar_none, bar_way}
 use Rattle.scopes.proofs.bar_of.Statement.{statement}
 use Rattle.scopes.proofs.bar_of.Tie as tie
 
@@ -22,7 +22,7 @@ has-requires : tie.Need-has-requires
 has-requires c κs = search rules
 
 returns : tie.Need-returns
-returns c = inr (not-derived (λ p. false-no (sym c.before.has.ensures ∙ not-true _ c.if1.true) p.0))
+returns c = inr (not_derived (λ p. false_no (sym c.before.has.ensures ∙ not-true _ c.if1.true) p.0))
 
 mul-has-2 : tie.Need-overflow-mul-has-2
 mul-has-2 c = search rules
@@ -34,7 +34,7 @@ has-requires-2 : tie.Need-has-requires-2
 has-requires-2 c κs = search rules
 
 returns-2 : tie.Need-returns-2
-returns-2 c = inr (not-derived (λ p. false-no (sym c.before.has2.ensures ∙ not-true _ c.if2.true) p.1))
+returns-2 c = inr (not_derived (λ p. false_no (sym c.before.has2.ensures ∙ not-true _ c.if2.true) p.1))
 
 mul-minus : tie.Need-overflow-mul-minus
 mul-minus c = search rules
@@ -70,17 +70,17 @@ enum_told : tie.Need-enum-told
 enum_told c = search rules
 
 -- past the first two tests a derives r
-derives : (c : tie.After-lowest) → let g = c.before.before.before.before.before.before.before.before.before.before.before.before.args in (g.r isIn row g.down.now g.a) × (g.a isIn row g.up.now g.r)
+derives : (c : tie.After-lowest) → let g = c.before.before.before.before.before.before.before.before.before.before.before.before.args in (g.r is_in row g.down.now g.a) × (g.a is_in row g.up.now g.r)
 derives c = (sym c.before.before.before.before.before.before.before.before.before.before.has.ensures ∙ not-false _ c.before.before.before.before.before.before.before.before.before.if1.false, sym c.before.before.before.before.before.before.before.has2.ensures ∙ not-false _ c.before.before.before.before.before.before.if2.false)
 
 returns-3 : tie.Need-returns-3
-returns-3 c = let d = derives c.before.before in inl (bar-none c.before.before.before.before.union.result c.before.before.before.minus.result c.before.before.before.before.union.ensures c.before.before.before.minus.ensures d.0 d.1 (nobody c.enum_told.given.1 c.before.before.lowest.ensures), (refl, refl))
+returns-3 c = let d = derives c.before.before in inl (bar_none c.before.before.before.before.union.result c.before.before.before.minus.result c.before.before.before.before.union.ensures c.before.before.before.minus.ensures d.0 d.1 (nobody c.enum_told.given.1 c.before.before.lowest.ensures), (refl, refl))
 
 cast-t27 : tie.Need-overflow-cast-t27
 cast-t27 c = let l = picked c.before.x.given.1 c.before.before.before.lowest.ensures in omega arith
 
 returns-4 : tie.Need-returns-4
-returns-4 c = let d = derives c.before.before.before in inr (in-the-way d.0 d.1 (bar-way c.before.before.before.before.before.union.result c.before.before.before.before.minus.result c.before.before.before.before.before.union.ensures c.before.before.before.before.minus.ensures (picked c.before.x.given.1 c.before.before.before.lowest.ensures)))
+returns-4 c = let d = derives c.before.before.before in inr (in_the_way d.0 d.1 (bar_way c.before.before.before.before.before.union.result c.before.before.before.before.minus.result c.before.before.before.before.before.union.ensures c.before.before.before.before.minus.ensures (picked c.before.x.given.1 c.before.before.before.lowest.ensures)))
 
 pub bar-of-spec : {M : Type 1} → statement M
 bar-of-spec =

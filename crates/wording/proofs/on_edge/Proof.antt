@@ -2,16 +2,16 @@ use mathlib.Core.Path.{◌≡◌, sym, ap, ◌∙◌}
 use borrow.Author.Rules.{rules}
 use borrow.Author.Tests.{le-leb, lt-leb}
 use Rattle.wording.specs.Texts.{word_at}
-use Rattle.wording.specs.Names.{roleOf, kind_of}
-use Rattle.wording.specs.Meanings.{edgeFrom}
+use Rattle.wording.specs.Names.{role_of, kind_of}
+use Rattle.wording.specs.Meanings.{edge_from}
 use Rattle.wording.proofs.on_edge.Statement.{statement}
 use Rattle.wording.proofs.on_edge.Tie as tie
 
-junior-is : (c : tie.After-role) → roleOf (word_at c.before.before.before.args.line.now 3) ≡ c.role.result
-junior-is c = sym (c.role.ensures ∙ ap roleOf c.before.word.ensures.0)
+junior_is : (c : tie.After-role) → role_of (word_at c.before.before.before.args.line.now 3) ≡ c.role.result
+junior_is c = sym (c.role.ensures ∙ ap role_of c.before.word.ensures.0)
 
-kind-is : (c : tie.After-kind) → kind_of (word_at c.before.before.before.before.before.before.args.line.now 4) ≡ c.kind.result
-kind-is c = sym (c.kind.ensures ∙ ap kind_of c.before.word2.ensures.0)
+kind_is : (c : tie.After-kind) → kind_of (word_at c.before.before.before.before.before.before.args.line.now 4) ≡ c.kind.result
+kind_is c = sym (c.kind.ensures ∙ ap kind_of c.before.word2.ensures.0)
 
 word-requires : tie.Need-word-requires
 word-requires c κs = search rules
@@ -20,8 +20,8 @@ role-requires : tie.Need-role-requires
 role-requires c κs = search rules
 
 returns : tie.Need-returns
-unfolding edgeFrom
-returns c = rw (junior-is c.before, lt-leb _ _ c.if1.true)
+unfolding edge_from
+returns c = rw (junior_is c.before, lt-leb _ _ c.if1.true)
 
 word-requires-2 : tie.Need-word-requires-2
 word-requires-2 c κs = search rules
@@ -30,8 +30,8 @@ kind-requires : tie.Need-kind-requires
 kind-requires c κs = search rules
 
 returns-2 : tie.Need-returns-2
-unfolding edgeFrom
-returns-2 c = rw (junior-is c.before.before.before.before, le-leb _ _ c.before.before.before.if1.false, kind-is c.before, lt-leb _ _ c.if2.true)
+unfolding edge_from
+returns-2 c = rw (junior_is c.before.before.before.before, le-leb _ _ c.before.before.before.if1.false, kind_is c.before, lt-leb _ _ c.if2.true)
 
 cast-plain : tie.Need-overflow-cast-plain
 cast-plain c = search rules
@@ -46,9 +46,9 @@ ended-requires : tie.Need-ended-requires
 ended-requires c κs = search rules
 
 returns-3 : tie.Need-returns-3
-unfolding edgeFrom
+unfolding edge_from
 returns-3 c = c.ended.ensures
-    ∙ rw (c.before.plain.ensures, junior-is c.before.before.before.before.before.before, le-leb _ _ c.before.before.before.before.before.if1.false, kind-is c.before.before.before, le-leb _ _ c.before.before.if2.false)
+    ∙ rw (c.before.plain.ensures, junior_is c.before.before.before.before.before.before, le-leb _ _ c.before.before.before.before.before.if1.false, kind_is c.before.before.before, le-leb _ _ c.before.before.if2.false)
 
 pub on-edge-spec : {M : Type 1} → statement M
 on-edge-spec =

@@ -1,5 +1,5 @@
 use borrow.Author.Rules.{rules}
-use Rattle.wording.specs.Meanings.{withSet}
+use Rattle.wording.specs.Meanings.{with_set}
 use Rattle.wording.proofs.with_set.Statement.{statement}
 use Rattle.wording.proofs.with_set.Tie as tie
 
@@ -16,7 +16,7 @@ chosen-requires-4 : tie.Need-chosen-requires-4
 chosen-requires-4 c κs = search rules
 
 returns : tie.Need-returns
-unfolding withSet
+unfolding with_set
 returns c = cc
 
 pub with-set-spec : {M : Type 1} → statement M

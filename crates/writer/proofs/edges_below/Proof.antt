@@ -3,7 +3,7 @@ use mathlib.Core.Path.{sym, ◌∙◌}
 use Prim.Native.Nat.{◌≤◌, ◌-◌}
 use native.Mathlib.Omega.{arith}
 use Rattle.hierarchy.specs.Tables.{tables}
-use Rattle.writer.proofs.Counts.{Counted, count-start, count-few, count_turn, count-end, row_count}
+use Rattle.writer.proofs.Counts.{Counted, count_start, count_few, count_turn, count_end, row_count}
 use Rattle.writer.proofs.edges_below.Statement.{statement}
 use Rattle.writer.proofs.edges_below.Tie as tie
 
@@ -14,7 +14,7 @@ abbrev decreases-loop : tie.decreases-loop
 decreases-loop i a senior n₀ x₀ n x = senior - x
 
 loop-holds : tie.Need-loop-init invariant-loop decreases-loop
-loop-holds c = (omega arith, count-start _)
+loop-holds c = (omega arith, count_start _)
 
 mul-union : tie.Need-overflow-mul-union invariant-loop decreases-loop
 mul-union c = omega arith
@@ -38,7 +38,7 @@ cast-n : tie.Need-overflow-cast-n invariant-loop decreases-loop
 cast-n c = omega (arith, c.size.type-inv)
 
 add-n : tie.Need-overflow-add-n invariant-loop decreases-loop
-add-n c = let h = count-few c.before.before.before.before.before.loop.invariant.1 in omega (arith, c.size.type-inv)
+add-n c = let h = count_few c.before.before.before.before.before.loop.invariant.1 in omega (arith, c.size.type-inv)
 
 add-x : tie.Need-overflow-add-x invariant-loop decreases-loop
 add-x c = omega arith
@@ -54,7 +54,7 @@ loop-again c = (
 )
 
 returns : tie.Need-returns invariant-loop decreases-loop
-returns c = count-end c.before.before.args.senior c.before.loop.invariant.1 (omega arith)
+returns c = count_end c.before.before.args.senior c.before.loop.invariant.1 (omega arith)
 
 pub edges-below-spec : {M : Type 1} → statement M
 edges-below-spec =

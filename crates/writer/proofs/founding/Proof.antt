@@ -3,15 +3,15 @@ use mathlib.Core.Logic.{⊎_elim}
 use Prim.Native.Nat.{ℕ, ◌-◌, ◌≤◌, ◌<◌}
 use native.Mathlib.Omega.{arith}
 use borrow.Author.Rules.{rules}
-use Rattle.sets.proofs.Bools.{lt-or-ge}
-use Rattle.board.specs.Rights.{rightsOf, foundingRights}
-use Rattle.writer.proofs.FoundingRights.{founding-other, founding-yes, founding-no}
+use Rattle.sets.proofs.Bools.{lt_or_ge}
+use Rattle.board.specs.Rights.{rights_of, founding_rights}
+use Rattle.writer.proofs.FoundingRights.{founding_other, founding_yes, founding_no}
 use Rattle.writer.proofs.founding.Statement.{statement}
 use Rattle.writer.proofs.founding.Tie as tie
 
 -- the roles below x have the founding board's rights
 abbrev invariant-loop : tie.invariant-loop
-invariant-loop rights x₀ x = (1 ≤ x) × (x ≤ 64) × ((y : ℕ) → y < x → rightsOf rights y ≡ rightsOf foundingRights y)
+invariant-loop rights x₀ x = (1 ≤ x) × (x ≤ 64) × ((y : ℕ) → y < x → rights_of rights y ≡ rights_of founding_rights y)
 
 abbrev decreases-loop : tie.decreases-loop
 decreases-loop rights x₀ x = 64 - x
@@ -20,7 +20,7 @@ element-copy-out-if1 : tie.Need-element-copy-out-if1 invariant-loop decreases-lo
 element-copy-out-if1 c = search rules
 
 returns : tie.Need-returns invariant-loop decreases-loop
-returns c = sym (founding-no _ 0 (omega arith) c.if1.true)
+returns c = sym (founding_no _ 0 (omega arith) c.if1.true)
 
 loop-holds : tie.Need-loop-init invariant-loop decreases-loop
 loop-holds c = (omega arith, omega arith, λ y l. let z : y ≡ 0 = omega arith in rw z c.if1.false)
@@ -31,7 +31,7 @@ element-copy-out-if2 c = search rules
 returns-2 : tie.Need-returns-2 invariant-loop decreases-loop
 returns-2 c =
     let l = c.before.before.before.loop in
-    sym (founding-no _ l.x (omega arith) (λ e. c.if2.true (e ∙ founding-other l.x (omega arith))))
+    sym (founding_no _ l.x (omega arith) (λ e. c.if2.true (e ∙ founding_other l.x (omega arith))))
 
 add-x : tie.Need-overflow-add-x invariant-loop decreases-loop
 add-x c = omega arith
@@ -46,12 +46,12 @@ loop-again c =
       omega arith,
       λ y h. ⊎_elim
           (λ (k : y < l.x). l.invariant.2 y k)
-          (λ (k : l.x ≤ y). let z : y ≡ l.x = omega arith in rw z (c.if2.false ∙ sym (founding-other l.x (omega arith))))
-          (lt-or-ge y l.x),
+          (λ (k : l.x ≤ y). let z : y ≡ l.x = omega arith in rw z (c.if2.false ∙ sym (founding_other l.x (omega arith))))
+          (lt_or_ge y l.x),
     )
 
 returns-3 : tie.Need-returns-3 invariant-loop decreases-loop
-returns-3 c = sym (founding-yes _ (λ y h. c.before.loop.invariant.2 y (omega arith)))
+returns-3 c = sym (founding_yes _ (λ y h. c.before.loop.invariant.2 y (omega arith)))
 
 pub founding-spec : {M : Type 1} → statement M
 founding-spec =

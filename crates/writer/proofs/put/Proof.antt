@@ -6,9 +6,9 @@ use lib.ListN.{length}
 use borrow.Author.Tests.{ltb-true, ltb-false}
 use borrow.Author.Rules.{rules}
 use Rattle.hierarchy.specs.Tables.{Tables, tables, kind}
-use Rattle.writer.specs.Files.{from, edge?, kind_at, fileOf}
+use Rattle.writer.specs.Files.{from, edge?, kind_at, file_of}
 use Rattle.writer.specs.Writing.{NoRoom.past_end, NoRoom.too_few}
-use Rattle.writer.proofs.Filed.{sizes-few, tail-few, file-long, file-room, no_room, filed}
+use Rattle.writer.proofs.Filed.{sizes_few, tail_few, file_long, file_room, no_room, filed}
 use Rattle.writer.proofs.put.Statement.{statement}
 use Rattle.writer.proofs.put.Tie as tie
 
@@ -30,14 +30,14 @@ unfolding kind_at kind
 edges_are c = c.edges-below.ensures
 
 few : (c : tie.After-edges-below) → (c.before.size.result ≤ 64) × (c.edges-below.result ≤ 4096)
-few c = sizes-few (given c.before.before.before) c.before.before.before.ranges.live.fits c.before.size.ensures (edges_are c)
+few c = sizes_few (given c.before.before.before) c.before.before.before.ranges.live.fits c.before.size.ensures (edges_are c)
 
 long : (c : tie.After-tail-len) → let s = c.before.before.before.before.before in
-    c.before.before.before.size.result + 3 * c.before.before.edges-below.result + c.tail-len.result ≡ length (fileOf (given s) s.args.rights.now)
+    c.before.before.before.size.result + 3 * c.before.before.edges-below.result + c.tail-len.result ≡ length (file_of (given s) s.args.rights.now)
 long c =
     let e = c.before.before in
     let s = e.before.before.before in
-    file-long (given s) s.ranges.live.fits e.before.size.ensures (edges_are e) s.args.rights.now c.before.founding.ensures c.tail-len.ensures
+    file_long (given s) s.ranges.live.fits e.before.size.ensures (edges_are e) s.args.rights.now c.before.founding.ensures c.tail-len.ensures
 
 mul-edges : tie.Need-overflow-mul-edges
 mul-edges c = let h = few c in omega arith
@@ -52,7 +52,7 @@ tail-len-requires : tie.Need-tail-len-requires
 tail-len-requires c κs = (few c.before).0
 
 add-len-2 : tie.Need-overflow-add-len-2
-add-len-2 c = let h = few c.before.before in omega (arith, c.tail-len.ensures, tail-few c.before.founding.result c.before.before.before.size.result)
+add-len-2 c = let h = few c.before.before in omega (arith, c.tail-len.ensures, tail_few c.before.founding.result c.before.before.before.size.result)
 
 sub-if2 : tie.Need-overflow-sub-if2
 sub-if2 c = search rules
@@ -77,7 +77,7 @@ put-file-requires c κs =
     let l = c.before.before.before in
     let e = l.before.before in
     let s = e.before.before.before in
-    file-room (given s) s.ranges.live.fits e.before.size.ensures (edges_are e) s.args.rights.now l.before.founding.ensures l.tail-len.ensures s.args.out.now s.args.at
+    file_room (given s) s.ranges.live.fits e.before.size.ensures (edges_are e) s.args.rights.now l.before.founding.ensures l.tail-len.ensures s.args.out.now s.args.at
     c.before.before.if1.false (ltb-false _ _ c.before.if2.false)
 
 same_length : tie.Need-same-length

@@ -1,5 +1,5 @@
 use mathlib.Core.Path.{refl}
-use Rattle.board.specs.Boards.{foundingBoard}
+use Rattle.board.specs.Boards.{founding_board}
 use borrow.Author.Rules.{rules}
 use Rattle.board.proofs.Board.founding.Statement.{statement}
 use Rattle.board.proofs.Board.founding.Tie as tie
@@ -11,7 +11,7 @@ array-write-rights : tie.Need-array-write-rights
 array-write-rights c = search rules
 
 returns : tie.Need-returns
-unfolding foundingBoard
+unfolding founding_board
 returns c = refl
 
 pub founding-spec : {M : Type 1} → statement M

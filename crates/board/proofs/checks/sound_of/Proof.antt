@@ -1,9 +1,9 @@
 use mathlib.Core.Path.{sym, ◌∙◌}
 use borrow.Author.Tests.{not-true, not-false}
 use borrow.Author.Rules.{rules}
-use Rattle.sets.proofs.Bools.{false-no}
+use Rattle.sets.proofs.Bools.{false_no}
 use Rattle.hierarchy.specs.Tables.{tables, Shaped}
-use Rattle.board.proofs.Looking.{holds, fails, never, worked-sound, worked-unsound, worked-right, kept-is}
+use Rattle.board.proofs.Looking.{holds, fails, never, worked_sound, worked_unsound, worked_right, kept_is}
 use Rattle.board.proofs.checks.sound_of.Statement.{statement}
 use Rattle.board.proofs.checks.sound_of.Tie as tie
 
@@ -11,7 +11,7 @@ shaped : (c : tie.After-whole-row) → Shaped (tables c.before.before.before.bef
 shaped c =
     let i = c.before.before.before.before.before.before.before.before.whole.ensures in
     let a = c.before.before.before.before.before.before.whole2.ensures in
-    record { live-fits = c.before.before.before.before.before.before.before.before.before.before.ranges.live.fits; i-rows = i.rows; a-rows = a.rows; i-fits = i.fits; a-fits = a.fits }
+    record { live_fits = c.before.before.before.before.before.before.before.before.before.before.ranges.live.fits; i_rows = i.rows; a_rows = a.rows; i_fits = i.fits; a_fits = a.fits }
 
 whole-requires : tie.Need-whole-requires
 whole-requires c κs = search rules
@@ -38,7 +38,7 @@ has-requires : tie.Need-has-requires
 has-requires c κs = search rules
 
 returns-2 : tie.Need-returns-2
-returns-2 c = never (λ s. false-no (sym c.before.has.ensures ∙ not-true _ c.if2.true) s.sound.root)
+returns-2 c = never (λ s. false_no (sym c.before.has.ensures ∙ not-true _ c.if2.true) s.sound.root)
 
 joined-requires : tie.Need-joined-requires
 joined-requires c κs = search rules
@@ -50,19 +50,19 @@ work-out-requires : tie.Need-work-out-requires
 work-out-requires c κs = search rules
 
 returns-4 : tie.Need-returns-4
-returns-4 c = never (λ s. worked-unsound c.before.work-out.ensures c.if4.true s.sound)
+returns-4 c = never (λ s. worked_unsound c.before.work-out.ensures c.if4.true s.sound)
 
 same-requires : tie.Need-same-requires
-same-requires c κs = let r = worked-right c.before.before.before.before.work-out.ensures c.before.before.before.if4.false in ((c.before.before.before.before.before.before.before.before.before.before.before.before.before.before.before.before.before.before.whole3.ensures.rows, (c.before.before.before.before.before.before.before.before.before.before.before.before.before.before.before.before.whole4.ensures.rows, c.before.before.before.before.before.before.before.before.before.before.before.before.before.before.whole_row.ensures.rows)), (r.views.down-rows, (r.views.up-rows, r.managers.manager-rows)))
+same-requires c κs = let r = worked_right c.before.before.before.before.work-out.ensures c.before.before.before.if4.false in ((c.before.before.before.before.before.before.before.before.before.before.before.before.before.before.before.before.before.before.whole3.ensures.rows, (c.before.before.before.before.before.before.before.before.before.before.before.before.before.before.before.before.whole4.ensures.rows, c.before.before.before.before.before.before.before.before.before.before.before.before.before.before.whole_row.ensures.rows)), (r.views.down_rows, (r.views.up_rows, r.managers.manager_rows)))
 
 returns-5 : tie.Need-returns-5
 returns-5 c =
     let w = c.before.before.before.before.before.work-out.ensures in
     let z = c.before.before.before.before.if4.false in
-    kept-is
-    (worked-sound w (shaped c.before.before.before.before.before.before.before.before.before.before.before.before.before.before.before) (sym c.before.before.before.before.before.before.before.before.before.before.before.before.has.ensures ∙ not-false _ c.before.before.before.before.before.before.before.before.before.before.before.if2.false) (holds c.before.before.before.before.before.before.before.before.before.before.joined.ensures (not-false _ c.before.before.before.before.before.before.before.before.before.if3.false)) z)
+    kept_is
+    (worked_sound w (shaped c.before.before.before.before.before.before.before.before.before.before.before.before.before.before.before) (sym c.before.before.before.before.before.before.before.before.before.before.before.before.has.ensures ∙ not-false _ c.before.before.before.before.before.before.before.before.before.before.before.if2.false) (holds c.before.before.before.before.before.before.before.before.before.before.joined.ensures (not-false _ c.before.before.before.before.before.before.before.before.before.if3.false)) z)
     (holds c.before.before.before.before.before.before.before.before.before.before.before.before.before.before.rightful.ensures (not-false _ c.before.before.before.before.before.before.before.before.before.before.before.before.before.if1.false))
-    (worked-right w z) c.same.ensures
+    (worked_right w z) c.same.ensures
 
 pub sound-of-spec : {M : Type 1} → statement M
 sound-of-spec =

@@ -3,7 +3,7 @@ use Prim.Native.Nat.{◌≤◌, ◌-◌}
 use native.Mathlib.Omega.{arith}
 use borrow.Author.Count.{below_more}
 use borrow.Author.Tests.{not-true, not-false}
-use Rattle.hierarchy.proofs.Rounds.{Joined-below, joined-no, joined-row, joined-yes}
+use Rattle.hierarchy.proofs.Rounds.{Joined-below, joined_no, joined_row, joined_yes}
 use Rattle.board.proofs.entries.joined.Statement.{statement}
 use Rattle.board.proofs.entries.joined.Tie as tie
 
@@ -35,7 +35,7 @@ joins-live-requires : tie.Need-joins-live-requires invariant-loop decreases-loop
 joins-live-requires c κs = search rules
 
 returns : tie.Need-returns invariant-loop decreases-loop
-returns c = joined-no _ c.before.before.before.before.before.before.loop.x _ _ c.before.before.union.result c.before.joins-live.result c.before.before.union.ensures c.before.joins-live.ensures (not-true _ c.if1.true)
+returns c = joined_no _ c.before.before.before.before.before.before.loop.x _ _ c.before.before.union.result c.before.joins-live.result c.before.before.union.ensures c.before.joins-live.ensures (not-true _ c.if1.true)
 
 add-x : tie.Need-overflow-add-x invariant-loop decreases-loop
 add-x c = search rules
@@ -44,7 +44,7 @@ loop-less : tie.Need-loop-smaller invariant-loop decreases-loop
 loop-less c = search rules
 
 loop-again : tie.Need-loop-preserved invariant-loop decreases-loop
-loop-again c = let s = c.before.before.before.before.before.before in (omega arith, below_more _ s.loop.x s.loop.invariant.1 (joined-row s.before.args.live s.loop.x s.before.args.i.now s.before.args.a.now c.before.before.union.result c.before.joins-live.result c.before.before.union.ensures c.before.joins-live.ensures (not-false _ c.if1.false)))
+loop-again c = let s = c.before.before.before.before.before.before in (omega arith, below_more _ s.loop.x s.loop.invariant.1 (joined_row s.before.args.live s.loop.x s.before.args.i.now s.before.args.a.now c.before.before.union.result c.before.joins-live.result c.before.before.union.ensures c.before.joins-live.ensures (not-false _ c.if1.false)))
 
 whole-requires : tie.Need-whole-requires invariant-loop decreases-loop
 whole-requires c κs = search rules
@@ -53,7 +53,7 @@ whole-requires-2 : tie.Need-whole-requires-2 invariant-loop decreases-loop
 whole-requires-2 c κs = search rules
 
 returns-2 : tie.Need-returns-2 invariant-loop decreases-loop
-returns-2 c = joined-yes _ c.before.before.before.before.before.loop.x _ _ c.before.before.whole.ensures.rows c.whole2.ensures.rows c.before.before.before.before.loop-test.false c.before.before.before.before.before.loop.invariant.1
+returns-2 c = joined_yes _ c.before.before.before.before.before.loop.x _ _ c.before.before.whole.ensures.rows c.whole2.ensures.rows c.before.before.before.before.loop-test.false c.before.before.before.before.before.loop.invariant.1
 
 pub joined-spec : {M : Type 1} → statement M
 joined-spec =

@@ -4,16 +4,16 @@ use native.Mathlib.Omega.{arith}
 use lib.Count.{count_trailing_zeros}
 use borrow.Author.Rules.{rules}
 use borrow.Author.Tests.{not-true, not-false}
-use Rattle.sets.specs.Sets.{◌isIn◌}
-use Rattle.sets.proofs.Bools.{false-no}
-use Rattle.sets.proofs.Digits.{bit-zero}
-use Rattle.sets.proofs.Laws.{bit-lowest}
+use Rattle.sets.specs.Sets.{◌is_in◌}
+use Rattle.sets.proofs.Bools.{false_no}
+use Rattle.sets.proofs.Digits.{bit_zero}
+use Rattle.sets.proofs.Laws.{bit_lowest}
 use Rattle.board.proofs.Looking.{never, always}
 use Rattle.board.proofs.entries.joins_live.Statement.{statement}
 use Rattle.board.proofs.entries.joins_live.Tie as tie
 
 returns : tie.Need-returns
-returns c = always (λ y m. absurd (false-no (bit-zero y) (subst (λ (s : ℕ). y isIn s) c.if1.true m)))
+returns c = always (λ y m. absurd (false_no (bit_zero y) (subst (λ (s : ℕ). y is_in s) c.if1.true m)))
 
 has-requires : tie.Need-has-requires
 has-requires c κs = search rules
@@ -22,8 +22,8 @@ has-requires c κs = search rules
 returns-2 : tie.Need-returns-2
 returns-2 c =
     let juniors = c.before.before.before.args.juniors in
-    never (λ p. false-no (sym c.before.has.ensures ∙ not-true _ c.if2.true)
-    (p (count_trailing_zeros 64 juniors) (bit-lowest 64 juniors (omega (arith, c.before.before.if1.false)) (omega arith))).0)
+    never (λ p. false_no (sym c.before.has.ensures ∙ not-true _ c.if2.true)
+    (p (count_trailing_zeros 64 juniors) (bit_lowest 64 juniors (omega (arith, c.before.before.if1.false)) (omega arith))).0)
 
 within-requires : tie.Need-within-requires
 within-requires c κs = search rules

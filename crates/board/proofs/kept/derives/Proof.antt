@@ -3,7 +3,7 @@ use Prim.Native.Nat.{ℕ}
 use native.Mathlib.Omega.{arith}
 use lib.ListN.{get_or-eq_default}
 use Rattle.sets.specs.Sets.{bit}
-use Rattle.sets.proofs.Digits.{bit-zero}
+use Rattle.sets.proofs.Digits.{bit_zero}
 use borrow.Author.Rules.{rules}
 use Rattle.board.proofs.kept.derives.Statement.{statement}
 use Rattle.board.proofs.kept.derives.Tie as tie
@@ -26,7 +26,7 @@ whole-requires c κs = search rules
 returns-2 : tie.Need-returns-2
 returns-2 c =
     let a = c.before.before.before.args in
-    sym (ap (λ (s : ℕ). bit s a.y) (get_or-eq_default a.derives.now 0 {n = a.x} (omega (arith, c.whole.ensures.rows))) ∙ bit-zero a.y)
+    sym (ap (λ (s : ℕ). bit s a.y) (get_or-eq_default a.derives.now 0 {n = a.x} (omega (arith, c.whole.ensures.rows))) ∙ bit_zero a.y)
 
 pub derives-spec : {M : Type 1} → statement M
 derives-spec =

@@ -6,7 +6,7 @@ use native.Mathlib.Omega.{arith}
 use borrow.Author.Count.{below_more}
 use borrow.Author.Tests.{not-true, not-false}
 use borrow.Author.Rules.{rules}
-use Rattle.sets.proofs.Bools.{true-or-false, false-no}
+use Rattle.sets.proofs.Bools.{true_or_false, false_no}
 use Rattle.board.proofs.Looking.{fails}
 use Rattle.board.proofs.Fitting.{FitsBelow, all_fit}
 use Rattle.board.proofs.rights.rightful.Statement.{statement}
@@ -31,7 +31,7 @@ may-hold-requires : tie.Need-may-hold-requires invariant-loop decreases-loop
 may-hold-requires c κs = search rules
 
 returns : tie.Need-returns invariant-loop decreases-loop
-returns c = (λ e. absurd (false≢true e), λ fit. absurd (fails c.before.may-hold.ensures (not-true _ c.if2.true) (fit.five _, ⊎_elim (λ m. m) (λ d. absurd (c.before.before.if1.true (fit.living _ d))) (true-or-false _))))
+returns c = (λ e. absurd (false≢true e), λ fit. absurd (fails c.before.may-hold.ensures (not-true _ c.if2.true) (fit.five _, ⊎_elim (λ m. m) (λ d. absurd (c.before.before.if1.true (fit.living _ d))) (true_or_false _))))
 
 add-x : tie.Need-overflow-add-x invariant-loop decreases-loop
 add-x c = search rules
@@ -43,7 +43,7 @@ loop-again : tie.Need-loop-preserved invariant-loop decreases-loop
 loop-again c = (
   search rules,
   below_more _ _ c.before.before.before.loop.invariant.1 (⊎_elim
-      (λ w. let m = w.1.ensures.0 (not-false _ w.2.left) in (m.0, λ d. absurd (false-no d m.1)))
+      (λ w. let m = w.1.ensures.0 (not-false _ w.2.left) in (m.0, λ d. absurd (false_no d m.1)))
       (λ w. (omega (arith, w.left), λ _. w.left)) c.if1.branch),
 )
 

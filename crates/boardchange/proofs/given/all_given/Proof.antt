@@ -1,6 +1,6 @@
 use Prim.Native.Nat.{◌≤◌, ◌-◌, ◌+◌}
 use lib.ListN.{length}
-use Rattle.board.specs.Boards.{boardOf}
+use Rattle.board.specs.Boards.{board_of}
 use Rattle.wording.proofs.Cutting.{Turn, turn}
 use Rattle.boardchange.proofs.Giving.{SoFar, start, next, finish}
 use borrow.Author.Rules.{rules}
@@ -10,7 +10,7 @@ use Rattle.boardchange.proofs.given.all_given.Tie as tie
 
 abbrev invariant-loop : tie.invariant-loop
 invariant-loop live₀ i₀ a₀ derives₀ derivers₀ manager₀ rights₀ text aloud n done₀ number₀ from₀ live i a derives derivers manager rights done number from =
-    (from ≤ length text + 1) × (number ≤ from + 1) × SoFar (boardOf live₀ i₀ a₀ derives₀ derivers₀ manager₀ rights₀) text from (boardOf live i a derives derivers manager rights) done
+    (from ≤ length text + 1) × (number ≤ from + 1) × SoFar (board_of live₀ i₀ a₀ derives₀ derivers₀ manager₀ rights₀) text from (board_of live i a derives derivers manager rights) done
 
 abbrev decreases-loop : tie.decreases-loop
 decreases-loop live₀ i₀ a₀ derives₀ derivers₀ manager₀ rights₀ text aloud n done₀ number₀ from₀ live i a derives derivers manager rights done number from = length text + 1 - from

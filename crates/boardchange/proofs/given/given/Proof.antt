@@ -8,7 +8,7 @@ all-given-requires : tie.Need-all-given-requires
 all-given-requires c κs = search rules
 
 returns : tie.Need-returns
-returns c = by_kind _ (sym c.before.before.before.before.before.before.before.before.if1.true) c.all-given.ensures
+returns c = by_kind _ (sym c.before.before.before.before.before.before.before.before.if1.true) c.all_given.ensures
 
 turn-requires : tie.Need-turn-requires
 turn-requires c κs = search rules

@@ -1,6 +1,6 @@
 use mathlib.Core.Path.{sym, ◌∙◌}
 use borrow.Author.Rules.{rules}
-use Rattle.boardchange.proofs.Giving.{gave_one, gave-none, by-meaning}
+use Rattle.boardchange.proofs.Giving.{gave_one, gave_none, by_meaning}
 use Rattle.boardchange.proofs.given.turn.Statement.{statement}
 use Rattle.boardchange.proofs.given.turn.Tie as tie
 
@@ -26,13 +26,13 @@ returns : tie.Need-returns
 returns c =
     let s = c.before.before in
     let m = s.before.before.before.before.before.before.before.before.before in
-    by-meaning (sym m.m.given.1 ∙ m.before.before.meant.ensures) (gave_one s.decide.ensures)
+    by_meaning (sym m.m.given.1 ∙ m.before.before.meant.ensures) (gave_one s.decide.ensures)
 
 returns-2 : tie.Need-returns-2
-returns-2 c = by-meaning (sym c.before.before.before.m2.given.1 ∙ c.before.before.before.before.before.meant.ensures) gave-none
+returns-2 c = by_meaning (sym c.before.before.before.m2.given.1 ∙ c.before.before.before.before.before.meant.ensures) gave_none
 
 returns-3 : tie.Need-returns-3
-returns-3 c = by-meaning (sym c.before.before.m2.given.1 ∙ c.before.before.before.before.meant.ensures) gave-none
+returns-3 c = by_meaning (sym c.before.before.m2.given.1 ∙ c.before.before.before.before.meant.ensures) gave_none
 
 pub turn_spec : {M : Type 1} → statement M
 turn_spec =

@@ -1,5 +1,5 @@
 use lib.Count.{ones}
-use Rattle.sets.proofs.Members.{Taken, picked, taken-less}
+use Rattle.sets.proofs.Members.{Taken, picked, taken_less}
 use borrow.Author.Rules.{rules}
 use Rattle.boardchange.proofs.reasons.held_by_any.Statement.{statement}
 use Rattle.boardchange.proofs.reasons.held_by_any.Tie as tie
@@ -35,10 +35,10 @@ without-requires : tie.Need-without-requires invariant-loop decreases-loop
 without-requires c κs = search rules
 
 taken : (c : tie.After-without invariant-loop decreases-loop) → Taken c.before.before.before.before.before.before.before.loop.rest c.before.before.before.before.x.given.0.0 c.without.result
-taken c = record { lowest = picked c.before.before.before.before.x.given.1 c.before.before.before.before.before.before.lowest.ensures; rest-is = c.without.ensures }
+taken c = record { lowest = picked c.before.before.before.before.x.given.1 c.before.before.before.before.before.before.lowest.ensures; rest_is = c.without.ensures }
 
 loop-less : tie.Need-loop-smaller invariant-loop decreases-loop
-loop-less c = taken-less (taken c)
+loop-less c = taken_less (taken c)
 
 loop-again : tie.Need-loop-preserved invariant-loop decreases-loop
 loop-again c = tt

@@ -1,5 +1,5 @@
 use lib.Count.{ones}
-use Rattle.sets.proofs.Members.{Taken, picked, taken-less}
+use Rattle.sets.proofs.Members.{Taken, picked, taken_less}
 use borrow.Author.Rules.{rules}
 use Rattle.boardchange.proofs.reasons.unmanaged.Statement.{statement}
 use Rattle.boardchange.proofs.reasons.unmanaged.Tie as tie
@@ -38,10 +38,10 @@ without-requires-2 : tie.Need-without-requires-2 invariant-loop decreases-loop
 without-requires-2 c κs = search rules
 
 taken : (c : tie.After-without2 invariant-loop decreases-loop) → Taken c.before.before.before.before.before.before.before.loop.rest c.before.before.before.before.x.given.0.0 c.without2.result
-taken c = record { lowest = picked c.before.before.before.before.x.given.1 c.before.before.before.before.before.before.lowest.ensures; rest-is = c.without2.ensures }
+taken c = record { lowest = picked c.before.before.before.before.x.given.1 c.before.before.before.before.before.before.lowest.ensures; rest_is = c.without2.ensures }
 
 loop-less : tie.Need-loop-smaller invariant-loop decreases-loop
-loop-less c = taken-less (taken c)
+loop-less c = taken_less (taken c)
 
 loop-again : tie.Need-loop-preserved invariant-loop decreases-loop
 loop-again c = tt

@@ -47,7 +47,7 @@ use Rattle.libc.proofs.fstat.Met as fstat-thm
 use Rattle.boardchange.specs.declared.system.Looked.{Looked}
 use Rattle.boardchange.specs.contracts.system.Looked as O
 use Rattle.boardchange.proofs.system.Looked.TheLaws as O'
-use Rattle.board.proofs.Lending.{token, Related, refTo, lends, takes}
+use Rattle.board.proofs.Lending.{token, Related, ref_to, lends, takes}
 use Rattle.boardchange.specs.contracts.system.look.Key.{name as #look}
 use Rattle.boardchange.specs.contracts.system.look as look'
 use Rattle.boardchange.proofs.system.look.Statement as stated
@@ -78,7 +78,7 @@ module _ {M : Type 1} {𝓤 : Ura M} (𝓛 : Logic 𝓤) (at_mem : Memory → SP
 
   module _ (l ν : ℕ) (γ : GName) where
     abbrev to : Args fstat.signature (ν ∷ [], tt)
-    to = (file, (refTo S.the_type S'.the_laws l γ h, tt))
+    to = (file, (ref_to S.the_type S'.the_laws l γ h, tt))
 
     abbrev to-fstat : Does.Ghost
     to-fstat = (((ν ∷ [], tt), (full_share, tt), tt, to, (sint_vals w32 file, (vptr l 0 ∷ [], tt))), tt)
@@ -96,19 +96,19 @@ module _ {M : Type 1} {𝓤 : Ura M} (𝓛 : Logic 𝓤) (at_mem : Memory → SP
   here = ((tt, tt, tt, x, at), tt)
 
   module _
-      (is-file : Is i32 file (sint_vals w32 file)) (is-h : Related S.the_type S'.the_laws h)
+      (is_file : Is i32 file (sint_vals w32 file)) (is-h : Related S.the_type S'.the_laws h)
       (C : Calls 𝓤 H) (Λ : Loops 𝓤 H) (fm : FmC 𝓤 H 𝓛.laws C) (known : Triple 𝓤 (C #fstat) Does) where
     walk : ent 𝓤 (on_entry 𝓛 look'.signature tt tt x at) (WpFn 𝓤 H C Λ code.function (only (sint_vals w32 file) ∷ ofStat h ∷ []) (Walk.post here))
     walk =
         qed 𝓛 (‵ ftrue ∷ ‵ (owns (i32 ∷ S.the_row ∷ []) x at) ∷ []) ∵ drop ! $ drop ! $ enter ! C Λ code.function (only (sint_vals w32 file) ∷ ofStat h ∷ []) _ $
         alloc1 ! (λ l₀. alloc1 ! (λ l₁. alloc1 ! (λ l₂. alloc1 ! (λ l₃. alloc1 ! (λ l₄. alloc1 ! (λ l₅. alloc1 ! (λ l₆. alloc0 ! $ params1 ! $
-        pass1 ! (init ! 10 refl ((sint_Lawful 𝓛 w32).typed file _ is-file).0) $ pass1 ! (init ! 8 refl ((LL.lawful S.the_type S'.the_laws 𝓛).typed h _ is-h).0) $ pass0 ! $
+        pass1 ! (init ! 10 refl ((sint_Lawful 𝓛 w32).typed file _ is_file).0) $ pass1 ! (init ! 8 refl ((LL.lawful S.the_type S'.the_laws 𝓛).typed h _ is-h).0) $ pass0 ! $
         assigns ! (of_opd ! (load ! (from ! (stop !)) (look ! 8 refl))) (from ! (stop !)) (init ! 6 refl ((LL.lawful S.the_type S'.the_laws 𝓛).typed h _ is-h).0) $
         assigns ! (addr ! (from ! (stop !))) (from ! (stop !)) (init ! 2 refl (tt, tt)) $
         -- [room for _6; …; _5; …; room for _4; …; _3; …; _2; …; _1; …; room for _0; …]: _3 is lent
         move ! (6 ∷ []) $ lends S.the_type S'.the_laws S'.the_plain ! tt h l₃ is-h (λ ν γ.
         -- [the token; the `&mut`; the lender's part; room for _6; …]: what `fstat` asks is put together
-        nothing ! $ move ! (2 ∷ 0 ∷ []) $ fjoin ! $ owned ! i32 (Is i32) (sint_Makes 𝓛 w32) file (sint_vals w32 file) is-file $ fjoin ! $ nothing ! $ move ! (2 ∷ 0 ∷ []) $ join ! $
+        nothing ! $ move ! (2 ∷ 0 ∷ []) $ fjoin ! $ owned ! i32 (Is i32) (sint_Makes 𝓛 w32) file (sint_vals w32 file) is_file $ fjoin ! $ nothing ! $ move ! (2 ∷ 0 ∷ []) $ join ! $
         join ! $ nothing ! $ move ! (1 ∷ 0 ∷ []) $ join ! $ use1 𝓛 (raw (Does.pre (to-fstat l₃ ν γ))) (id⊢ 𝓤 _) $
         -- [what it asks; the lender's part; room for _6; …; _5; …; room for _4; …; what frees _3; _2; …; _1; …; room for _0; …]
         calls_at ! fm Does known (to-fstat l₃ ν γ) (and_then ! (load ! (from ! (stop !)) (look ! 11 refl)) (and_then ! (load ! (from ! (stop !)) (look ! 4 refl)) (no_more !))) (λ v.

@@ -42,7 +42,7 @@ use Rattle.libc.proofs.nanosleep as nanosleep
 use Rattle.libc.proofs.nanosleep.Symbol as nanosleep-def
 use Rattle.libc.proofs.nanosleep.Symbol.{name as #nanosleep}
 use Rattle.libc.proofs.nanosleep.Met as nanosleep-thm
-use Rattle.board.proofs.Lending.{token, Related, refTo, lends, takes, shares, unshares}
+use Rattle.board.proofs.Lending.{token, Related, ref_to, lends, takes, shares, unshares}
 use Rattle.boardchange.specs.contracts.system.nap.Key.{name as #nap}
 use Rattle.boardchange.specs.contracts.system.nap as nap
 use Rattle.boardchange.proofs.system.nap.Statement as stated
@@ -75,7 +75,7 @@ module _ {M : Type 1} {𝓤 : Ura M} (𝓛 : Logic 𝓤) (at_mem : Memory → SP
 
   module _ (l₁ l₂ ν₁ ν₂ : ℕ) (γ₁ γ₂ : GName) where
     abbrev to : Args nanosleep.signature (ν₁ ∷ [], (ν₂ ∷ [], tt))
-    to = (refTo T.the_type T'.the_laws l₁ γ₁ asked, (refTo T.the_type T'.the_laws l₂ γ₂ left, tt))
+    to = (ref_to T.the_type T'.the_laws l₁ γ₁ asked, (ref_to T.the_type T'.the_laws l₂ γ₂ left, tt))
 
     abbrev to-sleep : Does.Ghost
     to-sleep = (((ν₁ ∷ [], (ν₂ ∷ [], tt)), (full_share, (full_share, tt)), tt, to, (vptr l₁ 0 ∷ [], (vptr l₂ 0 ∷ [], tt))), tt)

@@ -1,13 +1,13 @@
 use mathlib.Core.Path.{refl}
 use borrow.Author.Rules.{rules}
-use Rattle.board.specs.Boards.{boardOf, SoundBoard}
+use Rattle.board.specs.Boards.{board_of, SoundBoard}
 use Rattle.board.specs.declared.Board.{Board}
 use Rattle.commands.specs.Commands.{Decided}
-use Rattle.commands.proofs.Viewing.{decided-viewed}
+use Rattle.commands.proofs.Viewing.{decided_viewed}
 use Rattle.boardfile.specs.Answers.{ReadAnswer}
 use Rattle.boardfile.specs.Answers.{CommandAnswer.refused}
-use Rattle.boardfile.proofs.Readings.{sound, read-refused, read_done}
-use Rattle.boardfile.proofs.Commanding.{unread-as, wanting, finished}
+use Rattle.boardfile.proofs.Readings.{sound, read_refused, read_done}
+use Rattle.boardfile.proofs.Commanding.{unread_as, wanting, finished}
 use Rattle.boardfile.proofs.change.command.Statement.{statement}
 use Rattle.boardfile.proofs.change.command.Tie as tie
 
@@ -16,10 +16,10 @@ open-requires c κs = search rules
 
 -- the board of the file, and what the command left of it
 abbrev opened : tie.After-decide-trusting → Board
-opened c = let o = c.before.before.before.before.before.before.before.before.before.before.«open» in boardOf o.result.live o.new.1.0 o.new.1.1.0 o.new.1.1.1.0 o.new.1.1.1.1.0 o.new.1.1.1.1.1.0 o.new.1.1.1.1.1.1.0
+opened c = let o = c.before.before.before.before.before.before.before.before.before.before.«open» in board_of o.result.live o.new.1.0 o.new.1.1.0 o.new.1.1.1.0 o.new.1.1.1.1.0 o.new.1.1.1.1.1.0 o.new.1.1.1.1.1.1.0
 
 abbrev next : tie.After-decide-trusting → Board
-next c = let d = c.decide-trusting in boardOf d.new.0 d.new.1.0 d.new.1.1.0 d.new.1.1.1.0 d.new.1.1.1.1.0 d.new.1.1.1.1.1.0 d.new.1.1.1.1.1.1.0
+next c = let d = c.decide-trusting in board_of d.new.0 d.new.1.0 d.new.1.1.0 d.new.1.1.1.0 d.new.1.1.1.1.0 d.new.1.1.1.1.1.0 d.new.1.1.1.1.1.1.0
 
 has-read : (c : tie.After-decide-trusting) → ReadAnswer c.before.before.before.before.before.before.before.before.before.before.before.before.before.before.before.before.before.before.before.args.file.now 0 (opened c)
 has-read c = read_done c.before.before.before.before.before.before.before.before.before.before.«open».ensures c.before.before.before.before.before.before.before.before.if1.false
@@ -28,13 +28,13 @@ was-sound : (c : tie.After-decide-trusting) → SoundBoard (opened c)
 was-sound c = sound c.before.before.before.before.before.before.before.before.before.before.«open».ensures c.before.before.before.before.before.before.before.before.if1.false
 
 decided : (c : tie.After-decide-trusting) → Decided (opened c) c.before.before.before.before.before.before.before.before.before.before.before.before.before.before.before.before.before.before.before.args.c c.decide-trusting.result (next c)
-decided c = decided-viewed (was-sound c) c.decide-trusting.ensures
+decided c = decided_viewed (was-sound c) c.decide-trusting.ensures
 
 plain-requires : tie.Need-plain-requires
 plain-requires c κs = search rules
 
 returns : tie.Need-returns
-returns c = unread-as c.plain.ensures (read-refused c.before.before.before.«open».ensures c.before.if1.true) c.before.if1.true refl
+returns c = unread_as c.plain.ensures (read_refused c.before.before.before.«open».ensures c.before.if1.true) c.before.if1.true refl
 
 decide-trusting-requires : tie.Need-decide-trusting-requires
 decide-trusting-requires c κs = search rules

@@ -5,7 +5,7 @@ use Prim.Native.Nat.{◌-◌, ◌<◌}
 use native.Mathlib.Omega.{arith}
 use borrow.Author.Tests.{not-true, not-false}
 use Rattle.boardfile.specs.Parts.{Judged, Right}
-use Rattle.boardfile.proofs.EdgeRecords.{SoFar, edges-start, edges-late, edges-wrong, senior-fits, edges-turn, edges-end}
+use Rattle.boardfile.proofs.EdgeRecords.{SoFar, edges_start, edges_late, edges_wrong, senior_fits, edges_turn, edges_end}
 use Rattle.boardfile.proofs.reader.edges.Statement.{statement}
 use Rattle.boardfile.proofs.reader.edges.Tie as tie
 
@@ -18,7 +18,7 @@ decreases-loop file n m live i₀ a₀ next₀ k₀ i a next k = m - k
 loop-holds : tie.Need-loop-init invariant-loop decreases-loop
 loop-holds c =
     let s = c.before in
-    subst₂ (SoFar s.args.file.now s.args.n s.args.m s.args.live 0 0) (sym s.requires.2) (sym s.requires.3) (edges-start _ _ _ _)
+    subst₂ (SoFar s.args.file.now s.args.n s.args.m s.args.live 0 0) (sym s.requires.2) (sym s.requires.3) (edges_start _ _ _ _)
 
 mul-record : tie.Need-overflow-mul-record invariant-loop decreases-loop
 mul-record c = omega arith
@@ -44,8 +44,8 @@ returns c =
     let l = c.before.before.before.before.loop in
     let e = c.before.before.«record».result in
     ⊎_elim
-    (λ w. edges-late s.requires.0 l.invariant c.before.before.before.loop-test.true c.before.before.«record».ensures w.taken)
-    (λ w. edges-wrong s.requires.0 l.invariant c.before.before.before.loop-test.true c.before.before.«record».ensures s.requires.1 (subst (Judged s.args.live e.senior e.junior e.kind) (not-true w.1.result w.2.taken) w.1.ensures))
+    (λ w. edges_late s.requires.0 l.invariant c.before.before.before.loop-test.true c.before.before.«record».ensures w.taken)
+    (λ w. edges_wrong s.requires.0 l.invariant c.before.before.before.loop-test.true c.before.before.«record».ensures s.requires.1 (subst (Judged s.args.live e.senior e.junior e.kind) (not-true w.1.result w.2.taken) w.1.ensures))
     c.if1.branch
 
 -- past both tests the record is right
@@ -60,7 +60,7 @@ is_right c =
 fit : (c : tie.Else2 invariant-loop decreases-loop) → c.before.before.before.before.«record».result.senior < 64
 fit c =
     let s = c.before.before.before.before.before.before.before.before in
-    senior-fits s.requires.0 c.before.before.before.before.before.before.loop.invariant c.before.before.before.before.before.loop-test.true
+    senior_fits s.requires.0 c.before.before.before.before.before.before.loop.invariant c.before.before.before.before.before.loop-test.true
     c.before.before.before.before.«record».ensures s.requires.1.fits (is_right c)
 
 mul-entered : tie.Need-overflow-mul-entered invariant-loop decreases-loop
@@ -106,12 +106,12 @@ loop-again : tie.Need-loop-preserved invariant-loop decreases-loop
 loop-again c =
     let e = c.before.before.before.before.before.before in
     let s = e.before.before.before.before.before.before.before.before in
-    edges-turn s.requires.0 e.before.before.before.before.before.before.loop.invariant e.before.before.before.before.before.loop-test.true e.before.before.before.before.«record».ensures
+    edges_turn s.requires.0 e.before.before.before.before.before.before.loop.invariant e.before.before.before.before.before.loop-test.true e.before.before.before.before.«record».ensures
     s.requires.1.fits (is_right e) (omega (arith, e.before.before.if1.false)) c.before.before.before.entered.result c.entered2.result
     (omega (arith, c.before.before.before.entered.type-inv)) (omega (arith, c.entered2.type-inv)) c.before.before.before.entered.ensures c.entered2.ensures
 
 returns-2 : tie.Need-returns-2 invariant-loop decreases-loop
-returns-2 c = edges-end c.before.loop.invariant c.loop-test.false
+returns-2 c = edges_end c.before.loop.invariant c.loop-test.false
 
 pub edges_spec : {M : Type 1} → statement M
 edges_spec =

@@ -31,7 +31,7 @@ cast-kind c = omega (arith, c.shared-slice-known3.given (c.before.before.before.
 
 returns : tie.Need-returns
 returns c = let known = c.shared-slice-known3.given in let at = c.before.before.before.args.at in
-    record { senior-is = refl; junior-is = refl; kind-is = refl; small = (omega (arith, known at), omega (arith, known (at + 1))) }
+    record { senior_is = refl; junior_is = refl; kind_is = refl; small = (omega (arith, known at), omega (arith, known (at + 1))) }
 
 pub record-spec : {M : Type 1} → statement M
 record-spec =

@@ -4,9 +4,9 @@ use native.Mathlib.Omega.{arith}
 use lib.Count.{ones}
 use lib.ListN.{length}
 use Rattle.sets.specs.Sets.{LowestRole}
-use Rattle.sets.proofs.Laws.{ones-less}
+use Rattle.sets.proofs.Laws.{ones_less}
 use Rattle.sets.proofs.Members.{picked, nobody}
-use Rattle.boardfile.proofs.RightBytes.{SoFar, held_start, held-end, held-inside, held-bad, held-turn}
+use Rattle.boardfile.proofs.RightBytes.{SoFar, held_start, held_end, held_inside, held_bad, held_turn}
 use borrow.Author.Rules.{rules}
 use Rattle.boardfile.proofs.rights.held.Statement.{statement}
 use Rattle.boardfile.proofs.rights.held.Tie as tie
@@ -32,19 +32,19 @@ enum_told : tie.Need-enum-told invariant-loop decreases-loop
 enum_told c = search rules
 
 returns : tie.Need-returns invariant-loop decreases-loop
-returns c = held-end c.before.before.before.before.before.requires.0 c.before.before.before.loop.invariant (nobody c.enum_told.given.1 c.before.before.lowest.ensures)
+returns c = held_end c.before.before.before.before.before.requires.0 c.before.before.before.loop.invariant (nobody c.enum_told.given.1 c.before.before.lowest.ensures)
 
 low : (c : tie.After-known-told invariant-loop decreases-loop) → LowestRole c.before.before.before.before.loop.rest c.before.x.given.0.0
 low c = picked c.before.x.given.1 c.before.before.before.lowest.ensures
 
 inside : (c : tie.After-known-told invariant-loop decreases-loop) → c.before.before.before.before.loop.k < length c.before.before.before.before.before.before.args.file.now
-inside c = held-inside c.before.before.before.before.before.before.requires.0 c.before.before.before.before.loop.invariant (low c)
+inside c = held_inside c.before.before.before.before.before.before.requires.0 c.before.before.before.before.loop.invariant (low c)
 
 shared-slice-read-if1 : tie.Need-shared-slice-read-if1 invariant-loop decreases-loop
 shared-slice-read-if1 c = inside c.before
 
 returns-2 : tie.Need-returns-2 invariant-loop decreases-loop
-returns-2 c = held-bad c.before.before.before.before.before.before.before.before.requires.0 c.before.before.before.before.before.before.loop.invariant (low c.before.before) c.if1.true
+returns-2 c = held_bad c.before.before.before.before.before.before.before.before.requires.0 c.before.before.before.before.before.before.loop.invariant (low c.before.before) c.if1.true
 
 shared-slice-read-rights : tie.Need-shared-slice-read-rights invariant-loop decreases-loop
 shared-slice-read-rights c = inside c.before.before.before
@@ -59,12 +59,12 @@ add-k : tie.Need-overflow-add-k invariant-loop decreases-loop
 add-k c = omega (arith, inside c.before.before.before.before)
 
 loop-less : tie.Need-loop-smaller invariant-loop decreases-loop
-loop-less c = let l = low c.before.before.before.before in ones-less _ _ _ l.role l.member (c.but-lowest.ensures.rest _ l)
+loop-less c = let l = low c.before.before.before.before in ones_less _ _ _ l.role l.member (c.but-lowest.ensures.rest _ l)
 
 loop-again : tie.Need-loop-preserved invariant-loop decreases-loop
 loop-again c =
     let l = low c.before.before.before.before in
-    held-turn c.before.before.before.before.before.before.before.before.before.before.requires.0 c.before.before.before.before.before.before.before.before.loop.invariant l c.but-lowest.result (c.but-lowest.ensures.rest _ l) c.before.before.if1.false
+    held_turn c.before.before.before.before.before.before.before.before.before.before.requires.0 c.before.before.before.before.before.before.before.before.loop.invariant l c.but-lowest.result (c.but-lowest.ensures.rest _ l) c.before.before.if1.false
 
 pub held_spec : {M : Type 1} → statement M
 held_spec =

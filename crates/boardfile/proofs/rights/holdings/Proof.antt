@@ -9,7 +9,7 @@ use borrow.Author.Rules.{rules}
 use Rattle.frames.specs.Framing.{GoodFrame}
 use Rattle.frames.proofs.Frames.{announced}
 use Rattle.boardfile.specs.Parts.{Holding, Granted, Granting}
-use Rattle.boardfile.proofs.RightBytes.{rights-room, rights-high, rights-granted}
+use Rattle.boardfile.proofs.RightBytes.{rights_room, rights_high, rights_granted}
 use Rattle.boardfile.proofs.rights.holdings.Statement.{statement}
 use Rattle.boardfile.proofs.rights.holdings.Tie as tie
 
@@ -36,7 +36,7 @@ add-held : tie.Need-overflow-add-held
 add-held c = omega (arith, (announced (frame c)).room)
 
 held-requires : tie.Need-held-requires
-held-requires c κs = (rights-room (frame c.before) c.before.before.before.requires.1, c.before.before.before.requires.2)
+held-requires c κs = (rights_room (frame c.before) c.before.before.before.requires.1, c.before.before.before.requires.2)
 
 -- what the answer of held says of the rights
 abbrev Told : tie.After-held → Bool → Type 0
@@ -45,7 +45,7 @@ Told c good = let s = c.before.before.before.before.args in Holding s.file.now (
 returns-2 : tie.Need-returns-2
 returns-2 c =
     let w = subst (Told c.before) (not-true c.before.held.result c.if2.true) c.before.held.ensures in
-    rights-high (frame c.before.before.before) c.before.before.before.before.before.requires.1 w.0 w.1 w.2
+    rights_high (frame c.before.before.before) c.before.before.before.before.before.requires.1 w.0 w.1 w.2
 
 founding-requires : tie.Need-founding-requires
 founding-requires c κs = search rules
@@ -55,7 +55,7 @@ returns-3 c =
     let h = c.before.before.before in
     let s = h.before.before.before.before.args in
     subst (λ (w : Bool). Granting s.file.now s.n s.m w s.live (not c.founding.result) h.held.new.1.1.1.0) (sym (given h.before.before))
-    (rights-granted (frame h.before.before) h.before.before.before.before.requires.1 c.founding.result (subst (Told h) (not-false h.held.result c.before.before.if2.false) h.held.ensures) c.founding.ensures)
+    (rights_granted (frame h.before.before) h.before.before.before.before.requires.1 c.founding.result (subst (Told h) (not-false h.held.result c.before.before.if2.false) h.held.ensures) c.founding.ensures)
 
 pub holdings-spec : {M : Type 1} → statement M
 holdings-spec =

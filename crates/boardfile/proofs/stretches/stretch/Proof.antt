@@ -1,7 +1,7 @@
 use mathlib.Core.Path.{refl}
 use Prim.Native.Nat.{◌+◌, ◌-◌}
 use native.Mathlib.Omega.{arith}
-use Rattle.boardfile.proofs.Asking.{bounds-small, bounds-inside, stretched}
+use Rattle.boardfile.proofs.Asking.{bounds_small, bounds_inside, stretched}
 use borrow.Author.Rules.{rules}
 use Rattle.boardfile.proofs.stretches.stretch.Statement.{statement}
 use Rattle.boardfile.proofs.stretches.stretch.Tie as tie
@@ -10,7 +10,7 @@ bounds-requires : tie.Need-bounds-requires
 bounds-requires c κs = search rules
 
 add-end : tie.Need-overflow-add-end
-add-end c = let s = bounds-small c.before.bounds.ensures in record { fits = omega arith }
+add-end c = let s = bounds_small c.before.bounds.ensures in record { fits = omega arith }
 
 sub-result : tie.Need-overflow-sub-result
 sub-result c = omega arith
@@ -19,7 +19,7 @@ part-result-start : tie.Need-slice-bounds-result-start
 part-result-start c = omega arith
 
 part-result-end : tie.Need-slice-bounds-result-end
-part-result-end c = omega (arith, bounds-inside c.before.bounds.ensures)
+part-result-end c = omega (arith, bounds_inside c.before.bounds.ensures)
 
 returns : tie.Need-returns
 returns c =

@@ -4,8 +4,8 @@ use native.Mathlib.Omega.{arith}
 use lib.Count.{ones}
 use borrow.Author.Rules.{rules}
 use borrow.Author.Tests.{not-true, not-false}
-use Rattle.sets.proofs.Members.{Taken, taken-by, picked, nobody, taken-less}
-use Rattle.commands.proofs.Late.{Looked, looked-start, looked-turn, looked-out, looked-in}
+use Rattle.sets.proofs.Members.{Taken, taken_by, picked, nobody, taken_less}
+use Rattle.commands.proofs.Late.{Looked, looked_start, looked_turn, looked_out, looked_in}
 use Rattle.commands.proofs.afterwards.out_of_order.Statement.{statement}
 use Rattle.commands.proofs.afterwards.out_of_order.Tie as tie
 
@@ -16,7 +16,7 @@ abbrev decreases-loop : tie.decreases-loop
 decreases-loop live i a rest₀ rest = ones rest
 
 loop-holds : tie.Need-loop-init invariant-loop decreases-loop
-loop-holds c = looked-start _ _ _
+loop-holds c = looked_start _ _ _
 
 lowest-requires : tie.Need-lowest-requires invariant-loop decreases-loop
 lowest-requires c κs = search rules
@@ -28,7 +28,7 @@ enum_told : tie.Need-enum-told invariant-loop decreases-loop
 enum_told c = search rules
 
 returns : tie.Need-returns invariant-loop decreases-loop
-returns c = inl (looked-in c.before.before.before.before.args.live c.before.before.before.before.args.i.now c.before.before.before.before.args.a.now (nobody c.enum_told.given.1 c.before.before.lowest.ensures) c.before.before.before.loop.invariant, refl)
+returns c = inl (looked_in c.before.before.before.before.args.live c.before.before.before.before.args.i.now c.before.before.before.before.args.a.now (nobody c.enum_told.given.1 c.before.before.lowest.ensures) c.before.before.before.loop.invariant, refl)
 
 mul-union : tie.Need-overflow-mul-union invariant-loop decreases-loop
 mul-union c = let l = picked c.before.x.given.1 c.before.before.before.lowest.ensures in omega arith
@@ -49,19 +49,19 @@ within-requires : tie.Need-within-requires invariant-loop decreases-loop
 within-requires c κs = search rules
 
 returns-2 : tie.Need-returns-2 invariant-loop decreases-loop
-returns-2 c = inr (looked-out c.before.before.before.before.before.before.before.before.before.before.args.live c.before.before.before.before.before.before.before.before.before.before.args.i.now c.before.before.before.before.before.before.before.before.before.before.args.a.now c.before.before.before.before.before.before.x.given.0.0 c.before.before.union.result c.before.within.result c.before.before.union.ensures c.before.within.ensures (picked c.before.before.before.before.before.before.x.given.1 c.before.before.before.before.before.before.before.before.lowest.ensures).member (not-true _ c.if1.true) c.before.before.before.before.before.before.before.before.before.loop.invariant, refl)
+returns-2 c = inr (looked_out c.before.before.before.before.before.before.before.before.before.before.args.live c.before.before.before.before.before.before.before.before.before.before.args.i.now c.before.before.before.before.before.before.before.before.before.before.args.a.now c.before.before.before.before.before.before.x.given.0.0 c.before.before.union.result c.before.within.result c.before.before.union.ensures c.before.within.ensures (picked c.before.before.before.before.before.before.x.given.1 c.before.before.before.before.before.before.before.before.lowest.ensures).member (not-true _ c.if1.true) c.before.before.before.before.before.before.before.before.before.loop.invariant, refl)
 
 but-lowest-requires : tie.Need-but-lowest-requires invariant-loop decreases-loop
 but-lowest-requires c κs = search rules
 
 taken : (c : tie.After-but-lowest invariant-loop decreases-loop) → Taken c.before.before.before.before.before.before.before.before.before.before.loop.rest c.before.before.before.before.before.before.before.x.given.0.0 c.but-lowest.result
-taken c = taken-by (picked c.before.before.before.before.before.before.before.x.given.1 c.before.before.before.before.before.before.before.before.before.lowest.ensures) c.but-lowest.ensures
+taken c = taken_by (picked c.before.before.before.before.before.before.before.x.given.1 c.before.before.before.before.before.before.before.before.before.lowest.ensures) c.but-lowest.ensures
 
 loop-less : tie.Need-loop-smaller invariant-loop decreases-loop
-loop-less c = taken-less (taken c)
+loop-less c = taken_less (taken c)
 
 loop-again : tie.Need-loop-preserved invariant-loop decreases-loop
-loop-again c = looked-turn c.before.before.before.before.before.before.before.before.before.before.before.args.live c.before.before.before.before.before.before.before.before.before.before.before.args.i.now c.before.before.before.before.before.before.before.before.before.before.before.args.a.now c.before.before.before.before.before.before.before.x.given.0.0 c.before.before.before.union.result c.before.before.within.result c.before.before.before.union.ensures c.before.before.within.ensures (taken c) (not-false _ c.before.if1.false) c.before.before.before.before.before.before.before.before.before.before.loop.invariant
+loop-again c = looked_turn c.before.before.before.before.before.before.before.before.before.before.before.args.live c.before.before.before.before.before.before.before.before.before.before.before.args.i.now c.before.before.before.before.before.before.before.before.before.before.before.args.a.now c.before.before.before.before.before.before.before.x.given.0.0 c.before.before.before.union.result c.before.before.within.result c.before.before.before.union.ensures c.before.before.within.ensures (taken c) (not-false _ c.before.if1.false) c.before.before.before.before.before.before.before.before.before.before.loop.invariant
 
 pub out-of-order-spec : {M : Type 1} → statement M
 out-of-order-spec =

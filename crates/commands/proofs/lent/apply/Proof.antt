@@ -38,7 +38,7 @@ use denote.Exit.{yes}
 use denote.Triple.Clauses.{ensured, lasts}
 use Rattle.board.specs.declared.Board.{Board}
 use Rattle.board.specs.declared.Command.{Command}
-use Rattle.board.proofs.Values.{ofBoard, ofCommand, ofAnswer}
+use Rattle.board.proofs.Values.{of_board, of_command, of_answer}
 use Rattle.commands.specs.Commands.{Decided}
 use Rattle.commands.specs.declared.Outcome.{Outcome}
 use Rattle.commands.proofs.step.Symbol.{name as #step}
@@ -74,53 +74,53 @@ module _ {M : Type 1} {𝓤 : Ura M} (𝓛 : Logic 𝓤) (at_mem : Memory → SP
 
 module _
     {M : Type 1} {𝓤 : Ura M} (𝓛 : Logic 𝓤) (at_mem : Memory → SProp 𝓤) (run : Routine → Fun 𝓤)
-    (κ : Lft) (q : Share) (b o : ℕ) (γ : GName) (h : Board) (k : Command) (gk : Is Cm.the_row k (ofCommand k ∷ [])) where
+    (κ : Lft) (q : Share) (b o : ℕ) (γ : GName) (h : Board) (k : Command) (gk : Is Cm.the_row k (of_command k ∷ [])) where
   open 𝓛 use {H, A}
 
   abbrev x : MutBor Board × (Command × Unit {0})
   x = (record { ref_ptr = (b, o); ghost_name = γ; now = h }, (k, tt))
 
   abbrev at : List Val × (List Val × Unit {0})
-  at = (vptr b o ∷ [], (ofCommand k ∷ [], tt))
+  at = (vptr b o ∷ [], (of_command k ∷ [], tt))
 
   abbrev Post : Val → SProp 𝓤
   Post = (walk_of 𝓛 apply.ended stayed (apply.clauses 𝓛 at_mem run)).post (((κ, tt), (q, tt), tt, x, at), tt)
 
   -- what `step`'s triple binds outside, and what it asks
   abbrev to_step : (Step 𝓛 at_mem run).Ghost
-  to_step = ((tt, tt, tt, (h, (k, tt)), (ofBoard h ∷ [], (ofCommand k ∷ [], tt))), tt)
+  to_step = ((tt, tt, tt, (h, (k, tt)), (of_board h ∷ [], (of_command k ∷ [], tt))), tt)
 
-  goes_step : Is B.the_row h (ofBoard h ∷ []) → ent 𝓤 (emp 𝓤) ((Step 𝓛 at_mem run).pre to_step)
+  goes_step : Is B.the_row h (of_board h ∷ []) → ent 𝓤 (emp 𝓤) ((Step 𝓛 at_mem run).pre to_step)
   goes_step g =
       qed 𝓛 (‵ ftrue ∷ []) ∵ nothing ! $
       owned ! Cm.the_row (Is Cm.the_row) (LL.makes Cm.the_type Cm'.the_plain 𝓛) k _ gk $ fjoin ! $
       owned ! B.the_row (Is B.the_row) (LL.makes B.the_type B'.the_plain 𝓛) h _ g $ fjoin ! $
       move ! (1 ∷ 0 ∷ []) $ join ! $ nothing ! $ move ! (1 ∷ 0 ∷ []) $ frame ! $ done !
 
-  exits : (r : Outcome) → Decided h k r.answer r.board → Is An.the_row r.answer (ofAnswer r.answer ∷ [])
-      → ent 𝓤 (sep 𝓤 (A.obs γ ((B.the_row).coded.code r.board)) (sep 𝓤 (A.bor κ (Body (mem B.the_row) b o γ)) (A.lft κ q))) (Post (ofAnswer r.answer))
+  exits : (r : Outcome) → Decided h k r.answer r.board → Is An.the_row r.answer (of_answer r.answer ∷ [])
+      → ent 𝓤 (sep 𝓤 (A.obs γ ((B.the_row).coded.code r.board)) (sep 𝓤 (A.bor κ (Body (mem B.the_row) b o γ)) (A.lft κ q))) (Post (of_answer r.answer))
   exits r e is =
       qed 𝓛 (‵ (fobs γ ((B.the_row).coded.code r.board)) ∷ ‵ (fbor κ (Body (mem B.the_row) b o γ)) ∷ ‵ (flft κ q) ∷ []) ∵
       suffices ! _
-      (ends_at 𝓛 apply.ended stayed (apply.clauses 𝓛 at_mem run) (((κ, tt), (q, tt), tt, x, at), tt) (ofAnswer r.answer) r.answer (r.board, (tt, tt)) (tt, (tt, tt))) $
+      (ends_at 𝓛 apply.ended stayed (apply.clauses 𝓛 at_mem run) (((κ, tt), (q, tt), tt, x, at), tt) (of_answer r.answer) r.answer (r.board, (tt, tt)) (tt, (tt, tt))) $
       says ! e $ nothing ! $ move ! (3 ∷ 0 ∷ []) $ join ! $ frame ! $
       feq_i ! (List Val) (vptr b o ∷ []) (vptr b o ∷ []) refl $ fjoin3 ! $ nothing ! $
       owned ! Cm.the_row (Is Cm.the_row) (LL.makes Cm.the_type Cm'.the_plain 𝓛) k _ gk $ fjoin ! $ move ! (1 ∷ 0 ∷ []) $ fjoin ! $
       owned ! An.the_row (Is An.the_row) (LL.makes An.the_type An'.the_plain 𝓛) r.answer _ is $ move ! (1 ∷ 0 ∷ []) $ done !
 
   module _ (C : Calls 𝓤 H) (Λ : Loops 𝓤 H) (fm : FmC 𝓤 H 𝓛.laws C) (known : Triple 𝓤 (C #step) (Step 𝓛 at_mem run)) where
-    walk : ent 𝓤 (on_entry 𝓛 apply.signature (κ, tt) (q, tt) x at) (WpFn 𝓤 H C Λ code.function (vptr b o ∷ ofCommand k ∷ []) Post)
+    walk : ent 𝓤 (on_entry 𝓛 apply.signature (κ, tt) (q, tt) x at) (WpFn 𝓤 H C Λ code.function (vptr b o ∷ of_command k ∷ []) Post)
     walk =
         qed 𝓛 ((‵ (flft κ q) ⊛ ‵ ftrue) ∷ ‵ (owns (MutRef (named 0) κ B.the_row ∷ Cm.the_row ∷ []) x at) ∷ []) ∵
         split ! $ move ! (2 ∷ []) $ fsplit ! $ fsplit3 ! $ drop ! $ move ! (0 ∷ 1 ∷ 3 ∷ []) $
         -- [obs; the borrow; the token; what c owns; true]
-        enter ! C Λ code.function (vptr b o ∷ ofCommand k ∷ []) _ $
+        enter ! C Λ code.function (vptr b o ∷ of_command k ∷ []) _ $
         alloc1 ! (λ l₀. alloc1 ! (λ l₁. alloc1 ! (λ l₂. alloc1 ! (λ l₃. alloc1 ! (λ l₄. alloc0 ! $ params1 ! $
         pass1 ! (init ! 6 refl (tt, tt)) $ pass1 ! (init ! 4 refl ((LL.lawful Cm.the_type Cm'.the_laws 𝓛).typed k _ gk).0) $ pass0 ! $
         -- the borrow is opened
         move ! (10 ∷ 11 ∷ 12 ∷ []) $ opens ! tt B.the_row {h = h} b o (λ vs.
         spelt ! B.the_row (Is B.the_row) (shows 𝓛 B.the_row) (LL.vals B.the_type B'.the_laws) (LL.tells B.the_type B'.the_laws) full_share h vs b o $
-        move ! (1 ∷ []) $ peeks ! B.the_row (Is B.the_row) (shows 𝓛 B.the_row) h (ofBoard h ∷ []) (λ g. move ! (1 ∷ 0 ∷ []) $
+        move ! (1 ∷ []) $ peeks ! B.the_row (Is B.the_row) (shows 𝓛 B.the_row) h (of_board h ∷ []) (λ g. move ! (1 ∷ 0 ∷ []) $
         -- [the board's cell; what a Board owns; the open borrow; obs; auth; _4; …; _3; …; _2; …; _1; …; room for _0; …; what c owns; true]
         assigns ! (of_opd ! (load ! (from ! (hop ! (look ! 11 refl) (stop !))) (look_raw ! 0 refl)))
         (from ! (stop !)) (init ! 5 refl ((LL.lawful B.the_type B'.the_laws 𝓛).typed h _ g).0) $
@@ -144,7 +144,7 @@ module _
         -- the borrow is closed
         drop ! $ move ! (1 ∷ []) $ drop ! $ owned ! B.the_row (Is B.the_row) (LL.makes B.the_type B'.the_plain 𝓛) r.board _
         (LL.owed O.the_type O'.the_laws r _ is).1.0 $
-        move ! (1 ∷ 0 ∷ []) $ closes ! tt B.the_row r.board (ofBoard r.board ∷ []) b o $
+        move ! (1 ∷ 0 ∷ []) $ closes ! tt B.the_row r.board (of_board r.board ∷ []) b o $
         returns ! (look ! 11 refl) $ forget ! 3 refl $ forget ! 5 refl $ forget ! 7 refl $ forget ! 9 refl $ forget ! 11 refl $
         move ! (11 ∷ 12 ∷ []) $ free1 ! $ move ! (9 ∷ 10 ∷ []) $ free1 ! $ move ! (7 ∷ 8 ∷ []) $ free1 ! $ move ! (5 ∷ 6 ∷ []) $ free1 ! $ move ! (3 ∷ 4 ∷ []) $ free1 ! $ free0 ! $
         keep ! (0 ∷ 1 ∷ 2 ∷ []) $ by ! (exits r e (LL.owed O.the_type O'.the_laws r _ is).0))))))))))))

@@ -36,8 +36,8 @@ use denote.Triple.Clauses.{ensured}
 use Rattle.board.specs.declared.Board.{Board}
 use Rattle.board.specs.declared.Command.{Command}
 use Rattle.board.specs.declared.answers.Answer.{Answer}
-use Rattle.board.proofs.Fields.{Loans, Lasts, tokensOf, lasts_of, lifetimesOf, shares_of, refsOf, pointersOf, boardOfLasts, lends-fields, takes-fields}
-use Rattle.board.proofs.Values.{ofCommand}
+use Rattle.board.proofs.Fields.{Loans, Lasts, tokens_of, lasts_of, lifetimes_of, shares_of, refs_of, pointers_of, board_of_lasts, lends_fields, takes_fields}
+use Rattle.board.proofs.Values.{of_command}
 use Rattle.commands.specs.Commands.{Decided}
 use Rattle.commands.proofs.decide.Symbol.{name as #decide}
 use Rattle.commands.specs.contracts.lent.apply_in_place.Key.{name as #apply}
@@ -63,14 +63,14 @@ Does 𝓛 at_mem run = triple_of 𝓛 decide.signature (decide.spec 𝓛 at_mem 
 
 module _
     {M : Type 1} {𝓤 : Ura M} (𝓛 : Logic 𝓤) (at_mem : Memory → SProp 𝓤) (run : Routine → Fun 𝓤)
-    (κ : Lft) (q : Share) (r : MutBor Board) (c : Command) (gc : Is Cm.the_row c (ofCommand c ∷ [])) where
+    (κ : Lft) (q : Share) (r : MutBor Board) (c : Command) (gc : Is Cm.the_row c (of_command c ∷ [])) where
   open 𝓛 use {H}
 
   abbrev x : Args apply.signature (κ, tt)
   x = (r, (c, tt))
 
   abbrev at : Vals apply.signature (κ, tt)
-  at = (mut_vals r, (ofCommand c ∷ [], tt))
+  at = (mut_vals r, (of_command c ∷ [], tt))
 
   abbrev Walk : Contract 𝓤
   Walk = walk_of 𝓛 apply.ended stayed (apply.clauses 𝓛 at_mem run)
@@ -86,21 +86,21 @@ module _
 
   -- what the command owns, and what `decide`'s triple binds outside
   abbrev passed : Fml
-  passed = owns (Cm.the_row ∷ []) (c, tt) (ofCommand c ∷ [], tt)
+  passed = owns (Cm.the_row ∷ []) (c, tt) (of_command c ∷ [], tt)
 
-  abbrev to : (k : Loans) → Args decide.signature (lifetimesOf k tt)
-  to k = refsOf k r.now b o (c, tt)
+  abbrev to : (k : Loans) → Args decide.signature (lifetimes_of k tt)
+  to k = refs_of k r.now b o (c, tt)
 
   abbrev to-decide : Loans → (Does 𝓛 at_mem run).Ghost
-  to-decide k = ((lifetimesOf k tt, shares_of tt, tt, to k, pointersOf b o (ofCommand c ∷ [], tt)), tt)
+  to-decide k = ((lifetimes_of k tt, shares_of tt, tt, to k, pointers_of b o (of_command c ∷ [], tt)), tt)
 
   module _ (C : Calls 𝓤 H) (Λ : Loops 𝓤 H) (fm : FmC 𝓤 H 𝓛.laws C) (known : Triple 𝓤 (C #decide) (Does 𝓛 at_mem run)) where
-    walk : ent 𝓤 (on_entry 𝓛 apply.signature (κ, tt) (q, tt) x at) (WpFn 𝓤 H C Λ code.function (only (mut_vals r) ∷ ofCommand c ∷ []) (Walk.post here))
+    walk : ent 𝓤 (on_entry 𝓛 apply.signature (κ, tt) (q, tt) x at) (WpFn 𝓤 H C Λ code.function (only (mut_vals r) ∷ of_command c ∷ []) (Walk.post here))
     walk =
         qed 𝓛 ((‵ (flft κ q) ⊛ ‵ ftrue) ∷ ‵ (owns (MutRef (named 0) κ B.the_row ∷ Cm.the_row ∷ []) x at) ∷ []) ∵
         split ! $ move ! (2 ∷ []) $ fsplit ! $ fsplit3 ! $ keep ! (1 ∷ 2 ∷ 4 ∷ 3 ∷ []) $
         -- [obs; the borrow; the token; what the command owns]
-        enter ! C Λ code.function (only (mut_vals r) ∷ ofCommand c ∷ []) _ $
+        enter ! C Λ code.function (only (mut_vals r) ∷ of_command c ∷ []) _ $
         alloc1 ! (λ l₀. alloc1 ! (λ l₁. alloc1 ! (λ l₂. alloc1 ! (λ l₃. alloc1 ! (λ l₄. alloc1 ! (λ l₅. alloc1 ! (λ l₆. alloc1 ! (λ l₇. alloc1 ! (λ l₈. alloc1 ! (λ l₉. alloc0 ! $ params1 ! $
         pass1 ! (init ! 16 refl (tt, tt)) $ pass1 ! (init ! 14 refl ((LL.lawful Cm.the_type Cm'.the_laws 𝓛).typed c _ gc).0) $ pass0 ! $
         -- [_9; …; _8; …; _7; …; _6; …; _5; …; _4; …; _3; …; _2; …; _1; …; room for _0; …; obs; …]: the addresses of the fields
@@ -112,25 +112,25 @@ module _
         assigns ! (addr ! (from ! (hop ! (look ! 16 refl) (fld ! refl (stop !))))) (from ! (stop !)) (init ! 2 refl (tt, tt)) $
         assigns ! (addr ! (from ! (hop ! (look ! 16 refl) (fld ! refl (stop !))))) (from ! (stop !)) (init ! 0 refl (tt, tt)) $
         -- the borrow is opened, the fields are lent, and what `decide` asks is put together
-        move ! (20 ∷ 21 ∷ 22 ∷ []) $ open_ref ! tt (mem B.the_row) {x = r.now} {b = b} {o = o} $ move ! (0 ∷ 24 ∷ []) $ lends-fields ! tt r.now b o passed (λ k.
+        move ! (20 ∷ 21 ∷ 22 ∷ []) $ open_ref ! tt (mem B.the_row) {x = r.now} {b = b} {o = o} $ move ! (0 ∷ 24 ∷ []) $ lends_fields ! tt r.now b o passed (λ k.
         join ! $ nothing ! $ move ! (1 ∷ 0 ∷ []) $ join ! $ use1 𝓛 (raw ((Does 𝓛 at_mem run).pre (to-decide k))) (id⊢ 𝓤 _) $
         -- [what `decide` asks; the lender's parts; the way back; the open borrow; obs; auth; _9; …]
         calls_at ! fm (Does 𝓛 at_mem run) known (to-decide k)
         (and_then ! (load ! (from ! (stop !)) (look ! 18 refl)) (and_then ! (load ! (from ! (stop !)) (look ! 16 refl)) (and_then ! (load ! (from ! (stop !)) (look ! 14 refl)) (and_then ! (load ! (from ! (stop !)) (look ! 12 refl)) (and_then ! (load ! (from ! (stop !)) (look ! 10 refl)) (and_then ! (load ! (from ! (stop !)) (look ! 8 refl)) (and_then ! (load ! (from ! (stop !)) (look ! 6 refl)) (and_then ! (load ! (from ! (stop !)) (look ! 20 refl)) (no_more !))))))))) (λ w.
-        use1 𝓛 (later (some (λ (n : Answer). (‵ (tokensOf k) ⊛ ‵ ((An.the_row).own_val n (w ∷ []))) ⊛ raw (ensured 𝓛 decide.ended (decide.clauses 𝓛 at_mem run) (lifetimesOf k tt) (to k) tt n))))
+        use1 𝓛 (later (some (λ (n : Answer). (‵ (tokens_of k) ⊛ ‵ ((An.the_row).own_val n (w ∷ []))) ⊛ raw (ensured 𝓛 decide.ended (decide.clauses 𝓛 at_mem run) (lifetimes_of k tt) (to k) tt n))))
         (id⊢ 𝓤 _) $ await ! tt $ pick ! (λ n. split ! $ move ! (1 ∷ []) $
-        use1 𝓛 (some (λ (zs : Lasts (Unit {0} × Unit {0})). ‵ (lasts_of k (boardOfLasts zs) (fsep ftrue ftrue)) ⊛ raw (fact 𝓤 (Decided r.now c n (boardOfLasts zs))))) (id⊢ 𝓤 _) $
-        pick ! (λ zs. split ! $ move ! (1 ∷ []) $ heard ! (Decided r.now c n (boardOfLasts zs)) (λ e. move ! (1 ∷ []) $ split ! $ move ! (1 ∷ []) $
+        use1 𝓛 (some (λ (zs : Lasts (Unit {0} × Unit {0})). ‵ (lasts_of k (board_of_lasts zs) (fsep ftrue ftrue)) ⊛ raw (fact 𝓤 (Decided r.now c n (board_of_lasts zs))))) (id⊢ 𝓤 _) $
+        pick ! (λ zs. split ! $ move ! (1 ∷ []) $ heard ! (Decided r.now c n (board_of_lasts zs)) (λ e. move ! (1 ∷ []) $ split ! $ move ! (1 ∷ []) $
         -- [the result; the fields' tokens; the last values; the lender's parts; the way back; the open borrow; obs; auth; _9; …]
         peeks ! An.the_row (Is An.the_row) (shows 𝓛 An.the_row) n (w ∷ []) (λ is.
         land ! (from ! (stop !)) (init ! 26 refl ((LL.lawful An.the_type An'.the_laws 𝓛).typed n _ is).0) $
         -- the fields come back, and the borrow is closed
-        move ! (1 ∷ 2 ∷ 3 ∷ 4 ∷ []) $ takes-fields ! tt k (boardOfLasts zs) b o (fsep ftrue ftrue) $ move ! (0 ∷ 2 ∷ 3 ∷ 4 ∷ []) $ close_ref ! tt (mem B.the_row) (boardOfLasts zs) {b = b} {o = o} $
+        move ! (1 ∷ 2 ∷ 3 ∷ 4 ∷ []) $ takes_fields ! tt k (board_of_lasts zs) b o (fsep ftrue ftrue) $ move ! (0 ∷ 2 ∷ 3 ∷ 4 ∷ []) $ close_ref ! tt (mem B.the_row) (board_of_lasts zs) {b = b} {o = o} $
         -- [obs; the borrow; the token; the result; _9; …]
         returns ! (look ! 22 refl) $ forget ! 4 refl $ forget ! 6 refl $ forget ! 8 refl $ forget ! 10 refl $ forget ! 12 refl $ forget ! 14 refl $ forget ! 16 refl $ forget ! 18 refl $ forget ! 20 refl $ forget ! 22 refl $
         move ! (22 ∷ 23 ∷ []) $ free1 ! $ move ! (20 ∷ 21 ∷ []) $ free1 ! $ move ! (18 ∷ 19 ∷ []) $ free1 ! $ move ! (16 ∷ 17 ∷ []) $ free1 ! $ move ! (14 ∷ 15 ∷ []) $ free1 ! $ move ! (12 ∷ 13 ∷ []) $ free1 ! $ move ! (10 ∷ 11 ∷ []) $ free1 ! $ move ! (8 ∷ 9 ∷ []) $ free1 ! $ move ! (6 ∷ 7 ∷ []) $ free1 ! $ move ! (4 ∷ 5 ∷ []) $ free1 ! $ free0 ! $
         -- the exit: the token, the borrow, what the command owns, and the result
-        suffices ! _ (ends_at 𝓛 apply.ended stayed (apply.clauses 𝓛 at_mem run) here w n (boardOfLasts zs, (tt, tt)) (tt, (tt, tt))) $ says ! e $
+        suffices ! _ (ends_at 𝓛 apply.ended stayed (apply.clauses 𝓛 at_mem run) here w n (board_of_lasts zs, (tt, tt)) (tt, (tt, tt))) $ says ! e $
         nothing ! $ move ! (3 ∷ 0 ∷ []) $ join ! $ frame ! $ feq_i ! (List Val) (mut_vals r) (mut_vals r) refl $ fjoin3 ! $ nothing ! $
         owned ! Cm.the_row (Is Cm.the_row) (LL.makes Cm.the_type Cm'.the_plain 𝓛) c _ gc $ fjoin ! $ move ! (1 ∷ 0 ∷ []) $ fjoin ! $ done !))))))))))))))))
 

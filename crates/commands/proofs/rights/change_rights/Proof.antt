@@ -1,7 +1,7 @@
 use native.Mathlib.Omega.{arith}
 use borrow.Author.Rules.{rules}
-use Rattle.refusals.proofs.Trying.{role-lt}
-use Rattle.commands.proofs.RightsLeft.{rights-set, rights-small}
+use Rattle.refusals.proofs.Trying.{role_lt}
+use Rattle.commands.proofs.RightsLeft.{rights_set, rights_small}
 use Rattle.commands.proofs.rights.change_rights.Statement.{statement}
 use Rattle.commands.proofs.rights.change_rights.Tie as tie
 
@@ -12,7 +12,7 @@ cast-role : tie.Need-overflow-cast-role
 cast-role c = search rules
 
 element-copy-out-held : tie.Need-element-copy-out-held
-element-copy-out-held c = role-lt _ c.before.before.before.requires
+element-copy-out-held c = role_lt _ c.before.before.before.requires
 
 cast-held : tie.Need-overflow-cast-held
 cast-held c = omega (arith, c.before.before.whole_row.ensures.fits c.before.before.before.before.args.c.role)
@@ -23,13 +23,13 @@ held-after-requires c κs = search rules
 cast-rights : tie.Need-overflow-cast-rights
 cast-rights c =
     let s = c.before.before.before.before.before in
-    record { fits = rights-small s.args.c s.requires _ c.held_after.result (c.before.before.before.whole_row.ensures.fits s.args.c.role) c.held_after.ensures }
+    record { fits = rights_small s.args.c s.requires _ c.held_after.result (c.before.before.before.whole_row.ensures.fits s.args.c.role) c.held_after.ensures }
 
 element-write-rights : tie.Need-element-write-rights
-element-write-rights c = role-lt _ c.before.before.before.before.before.requires
+element-write-rights c = role_lt _ c.before.before.before.before.before.requires
 
 returns : tie.Need-returns
-returns c = let s = c.before.before.before.before.before in rights-set s.args.c s.args.rights.now c.before.before.before.whole_row.ensures (role-lt s.args.c s.requires) _ c.held_after.ensures
+returns c = let s = c.before.before.before.before.before in rights_set s.args.c s.args.rights.now c.before.before.before.whole_row.ensures (role_lt s.args.c s.requires) _ c.held_after.ensures
 
 pub change-rights-spec : {M : Type 1} → statement M
 change-rights-spec =

@@ -1,7 +1,7 @@
 use native.Mathlib.Omega.{arith}
 use mathlib.Core.Path.{refl}
 use borrow.Author.Rules.{rules}
-use Rattle.commands.proofs.RightsLeft.{new_none, removed-none, given, taken, untouched}
+use Rattle.commands.proofs.RightsLeft.{new_none, removed_none, given, taken, untouched}
 use Rattle.commands.proofs.rights.held_after.Statement.{statement}
 use Rattle.commands.proofs.rights.held_after.Tie as tie
 
@@ -9,7 +9,7 @@ returns : tie.Need-returns
 returns c = new_none _ _ _ c.if1.true refl
 
 returns-2 : tie.Need-returns-2
-returns-2 c = removed-none _ _ _ c.if2.true refl
+returns-2 c = removed_none _ _ _ c.if2.true refl
 
 cast-union : tie.Need-overflow-cast-union
 cast-union c = search rules

@@ -1,8 +1,8 @@
 use borrow.Author.Rules.{rules}
 use lib.Count.{ones}
 use native.Mathlib.Omega.{arith}
-use Rattle.sets.proofs.Members.{Taken, taken-by, taken-less, picked, nobody}
-use Rattle.effects.proofs.Edits.{Entering, entering-start, entering-turn, entering-end}
+use Rattle.sets.proofs.Members.{Taken, taken_by, taken_less, picked, nobody}
+use Rattle.effects.proofs.Edits.{Entering, entering_start, entering_turn, entering_end}
 use Rattle.effects.proofs.tables.enter.Statement.{statement}
 use Rattle.effects.proofs.tables.enter.Tie as tie
 
@@ -13,7 +13,7 @@ abbrev decreases-loop : tie.decreases-loop
 decreases-loop t₀ seniors junior part rest₀ t rest = ones rest
 
 loop-holds : tie.Need-loop-init invariant-loop decreases-loop
-loop-holds c = entering-start _ _ _ _ c.requires
+loop-holds c = entering_start _ _ _ _ c.requires
 
 lowest-requires : tie.Need-lowest-requires invariant-loop decreases-loop
 lowest-requires c κs = search rules
@@ -25,7 +25,7 @@ enum_told : tie.Need-enum-told invariant-loop decreases-loop
 enum_told c = search rules
 
 returns : tie.Need-returns invariant-loop decreases-loop
-returns c = entering-end (nobody c.enum_told.given.1 c.before.before.lowest.ensures) c.before.before.before.loop.invariant
+returns c = entering_end (nobody c.enum_told.given.1 c.before.before.lowest.ensures) c.before.before.before.loop.invariant
 
 mul-put : tie.Need-overflow-mul-put invariant-loop decreases-loop
 mul-put c = let l = picked c.before.x.given.1 c.before.before.before.lowest.ensures in omega arith
@@ -46,13 +46,13 @@ but-lowest-requires : tie.Need-but-lowest-requires invariant-loop decreases-loop
 but-lowest-requires c κs = search rules
 
 taken : (c : tie.After-but-lowest invariant-loop decreases-loop) → Taken c.before.before.before.before.before.before.before.loop.rest c.before.before.before.before.x.given.0.0 c.but-lowest.result
-taken c = taken-by (picked c.before.before.before.before.x.given.1 c.before.before.before.before.before.before.lowest.ensures) c.but-lowest.ensures
+taken c = taken_by (picked c.before.before.before.before.x.given.1 c.before.before.before.before.before.before.lowest.ensures) c.but-lowest.ensures
 
 loop-less : tie.Need-loop-smaller invariant-loop decreases-loop
-loop-less c = taken-less (taken c)
+loop-less c = taken_less (taken c)
 
 loop-again : tie.Need-loop-preserved invariant-loop decreases-loop
-loop-again c = entering-turn c.before.put.result (omega (arith, c.before.put.type-inv)) c.before.before.before.before.before.before.before.loop.invariant (taken c) c.before.put.ensures
+loop-again c = entering_turn c.before.put.result (omega (arith, c.before.put.type-inv)) c.before.before.before.before.before.before.before.loop.invariant (taken c) c.before.put.ensures
 
 pub enter_spec : {M : Type 1} → statement M
 enter_spec =

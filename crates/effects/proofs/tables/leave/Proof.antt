@@ -1,7 +1,7 @@
 use borrow.Author.Rules.{rules}
 use Prim.Native.Nat.{◌-◌}
 use native.Mathlib.Omega.{arith}
-use Rattle.effects.proofs.Edits.{Leaving, leaving-start, leaving-turn, leaving-end}
+use Rattle.effects.proofs.Edits.{Leaving, leaving_start, leaving_turn, leaving_end}
 use Rattle.effects.proofs.tables.leave.Statement.{statement}
 use Rattle.effects.proofs.tables.leave.Tie as tie
 
@@ -12,7 +12,7 @@ abbrev decreases-loop : tie.decreases-loop
 decreases-loop t₀ junior x₀ t x = 64 - x
 
 loop-holds : tie.Need-loop-init invariant-loop decreases-loop
-loop-holds c = leaving-start _ c.requires
+loop-holds c = leaving_start _ c.requires
 
 mul-without : tie.Need-overflow-mul-without invariant-loop decreases-loop
 mul-without c = search rules
@@ -36,10 +36,10 @@ loop-less : tie.Need-loop-smaller invariant-loop decreases-loop
 loop-less c = search rules
 
 loop-again : tie.Need-loop-preserved invariant-loop decreases-loop
-loop-again c = leaving-turn c.without.result (omega (arith, c.without.type-inv)) (omega arith) c.before.before.before.loop.invariant c.without.ensures
+loop-again c = leaving_turn c.without.result (omega (arith, c.without.type-inv)) (omega arith) c.before.before.before.loop.invariant c.without.ensures
 
 returns : tie.Need-returns invariant-loop decreases-loop
-returns c = leaving-end (omega arith) c.before.loop.invariant
+returns c = leaving_end (omega arith) c.before.loop.invariant
 
 pub leave_spec : {M : Type 1} → statement M
 leave_spec =

@@ -1,7 +1,7 @@
 use mathlib.Core.Path.{◌∙◌}
 use borrow.Author.Rules.{rules}
 use Rattle.sets.specs.Sets.{bit, same?}
-use Rattle.effects.proofs.Edits.{put_in, put-out}
+use Rattle.effects.proofs.Edits.{put_in, put_out}
 use Rattle.effects.proofs.tables.put.Statement.{statement}
 use Rattle.effects.proofs.tables.put.Tie as tie
 
@@ -15,7 +15,7 @@ without-requires : tie.Need-without-requires
 without-requires c κs = search rules
 
 returns-2 : tie.Need-returns-2
-returns-2 c = let a = c.before.before.args in λ x. c.without.ensures x ∙ put-out (bit a.s x) (same? a.r x) a.part c.before.if1.false
+returns-2 c = let a = c.before.before.args in λ x. c.without.ensures x ∙ put_out (bit a.s x) (same? a.r x) a.part c.before.if1.false
 
 pub put_spec : {M : Type 1} → statement M
 put_spec = tie.close (tie.spec with-requires returns without-requires returns-2)

@@ -35,8 +35,8 @@ use denote.Triple.Clauses.{ensured, lasts}
 use Rattle.board.specs.declared.Board.{Board}
 use Rattle.board.specs.declared.Command.{Command}
 use Rattle.board.specs.declared.answers.Answer.{Answer}
-use Rattle.board.proofs.Values.{ofBoard, ofCommand}
-use Rattle.board.proofs.Lending.{token, Related, refTo, lends, takes}
+use Rattle.board.proofs.Values.{of_board, of_command}
+use Rattle.board.proofs.Lending.{token, Related, ref_to, lends, takes}
 use Rattle.board.specs.contracts.Board as B
 use Rattle.board.proofs.Board.TheLaws as B'
 use Rattle.board.specs.contracts.Command as Cm
@@ -64,10 +64,10 @@ abbrev result : Answer → Board → Outcome
 result r h = record { answer = r; board = h }
 
 abbrev ofResult : Val → Board → Val
-ofResult v h = vstruct (of_list (v ∷ ofBoard h ∷ []))
+ofResult v h = vstruct (of_list (v ∷ of_board h ∷ []))
 
 is-result : (r : Answer) (v : Val) (h : Board) → Is An.the_row r (v ∷ []) → Related B.the_type B'.the_laws h → Is O.the_row (result r h) (ofResult v h ∷ [])
-is-result r v h is held = ((v ∷ [], (ofBoard h ∷ [], tt)), (refl, (is, (held, tt))))
+is-result r v h is held = ((v ∷ [], (of_board h ∷ [], tt)), (refl, (is, (held, tt))))
 
 module _ {M : Type 1} {𝓤 : Ura M} (𝓛 : Logic 𝓤) (at_mem : Memory → SProp 𝓤) (run : Routine → Fun 𝓤) (h : Board) (k : Command) where
   -- the contract that the proof cites, and what its triple binds outside: the local is block l, and is lent for ν under γ
@@ -78,16 +78,16 @@ module _ {M : Type 1} {𝓤 : Ura M} (𝓛 : Logic 𝓤) (at_mem : Memory → SP
 
   module _ (l ν : ℕ) (γ : GName) where
     abbrev to : Args apply.signature (ν ∷ [], tt)
-    to = (refTo B.the_type B'.the_laws l γ h, (k, tt))
+    to = (ref_to B.the_type B'.the_laws l γ h, (k, tt))
 
     abbrev to-apply : Does.Ghost
-    to-apply = (((ν ∷ [], tt), (full_share, tt), tt, to, (vptr l 0 ∷ [], (ofCommand k ∷ [], tt))), tt)
+    to-apply = (((ν ∷ [], tt), (full_share, tt), tt, to, (vptr l 0 ∷ [], (of_command k ∷ [], tt))), tt)
 
   abbrev x : Args applied.signature tt
   x = (h, (k, tt))
 
   abbrev at : Vals applied.signature tt
-  at = (ofBoard h ∷ [], (ofCommand k ∷ [], tt))
+  at = (of_board h ∷ [], (of_command k ∷ [], tt))
 
   abbrev Walk : Contract 𝓤
   Walk = walk_of 𝓛 applied.ended stayed (applied.clauses 𝓛 at_mem run)
@@ -98,9 +98,9 @@ module _ {M : Type 1} {𝓤 : Ura M} (𝓛 : Logic 𝓤) (at_mem : Memory → SP
   module _
       (is-h : Related B.the_type B'.the_laws h) (is-k : Related Cm.the_type Cm'.the_laws k)
       (C : Calls 𝓤 H) (Λ : Loops 𝓤 H) (fm : FmC 𝓤 H 𝓛.laws C) (known : Triple 𝓤 (C #apply) Does) where
-    walk : ent 𝓤 (on_entry 𝓛 applied.signature tt tt x at) (WpFn 𝓤 H C Λ code.function (ofBoard h ∷ ofCommand k ∷ []) (Walk.post here))
+    walk : ent 𝓤 (on_entry 𝓛 applied.signature tt tt x at) (WpFn 𝓤 H C Λ code.function (of_board h ∷ of_command k ∷ []) (Walk.post here))
     walk =
-        qed 𝓛 (‵ ftrue ∷ ‵ (owns (B.the_row ∷ Cm.the_row ∷ []) x at) ∷ []) ∵ drop ! $ drop ! $ enter ! C Λ code.function (ofBoard h ∷ ofCommand k ∷ []) _ $
+        qed 𝓛 (‵ ftrue ∷ ‵ (owns (B.the_row ∷ Cm.the_row ∷ []) x at) ∷ []) ∵ drop ! $ drop ! $ enter ! C Λ code.function (of_board h ∷ of_command k ∷ []) _ $
         alloc1 ! (λ l₀. alloc1 ! (λ l₁. alloc1 ! (λ l₂. alloc1 ! (λ l₃. alloc1 ! (λ l₄. alloc1 ! (λ l₅. alloc1 ! (λ l₆. alloc0 ! $ params1 ! $
         pass1 ! (init ! 10 refl ((LL.lawful B.the_type B'.the_laws 𝓛).typed h _ is-h).0) $ pass1 ! (init ! 8 refl ((LL.lawful Cm.the_type Cm'.the_laws 𝓛).typed k _ is-k).0) $ pass0 ! $
         assigns ! (of_opd ! (load ! (from ! (stop !)) (look ! 10 refl))) (from ! (stop !)) (init ! 6 refl ((LL.lawful B.the_type B'.the_laws 𝓛).typed h _ is-h).0) $

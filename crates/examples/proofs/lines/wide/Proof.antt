@@ -5,7 +5,7 @@ use native.Mathlib.Omega.{arith}
 use lib.ListN.{length, length-set, get_or}
 use lib.Seq.{ext_get_or}
 use Prim.Native.Nat.{ℕ, ◌-◌, ◌≤◌, ◌<◌}
-use Rattle.hierarchy.proofs.Rows.{row-set}
+use Rattle.hierarchy.proofs.Rows.{row_set}
 use Rattle.examples.proofs.lines.wide.Statement.{statement}
 use Rattle.examples.proofs.lines.wide.Tie as tie
 
@@ -45,7 +45,7 @@ loop-again c =
     let more : x < 64 = search rules in (
       omega (arith, more),
       length-set w x (get_or row x 0) ∙ inv.1,
-      λ k l. row-set w x (get_or row x 0) k (omega (arith, more, inv.1)) (λ n. n ≡ get_or row k 0) (λ e. ap (λ (n : ℕ). get_or row n 0) (sym e)) (λ d. inv.2 k (omega arith)),
+      λ k l. row_set w x (get_or row x 0) k (omega (arith, more, inv.1)) (λ n. n ≡ get_or row k 0) (λ e. ap (λ (n : ℕ). get_or row n 0) (sym e)) (λ d. inv.2 k (omega arith)),
     )
 
 returns : tie.Need-returns invariant-loop decreases-loop

@@ -1,9 +1,9 @@
 use borrow.Author.Rules.{rules}
 use native.Mathlib.Omega.{arith}
 use lib.Count.{ones}
-use Rattle.sets.proofs.Members.{Taken, taken-by, picked, nobody, taken-less}
+use Rattle.sets.proofs.Members.{Taken, taken_by, picked, nobody, taken_less}
 use Rattle.hierarchy.specs.Tables.{row}
-use Rattle.hierarchy.proofs.Managing.{Narrowed, narrow_start, narrow-turn, narrow-end}
+use Rattle.hierarchy.proofs.Managing.{Narrowed, narrow_start, narrow_turn, narrow_end}
 use Rattle.hierarchy.proofs.managers.administrators_of.Statement.{statement}
 use Rattle.hierarchy.proofs.managers.administrators_of.Tie as tie
 
@@ -41,7 +41,7 @@ enum_told : tie.Need-enum-told invariant-loop decreases-loop
 enum_told c = search rules
 
 returns : tie.Need-returns invariant-loop decreases-loop
-returns c = narrow-end _ _ c.before.before.before.before.before.before.before.requires c.before.before.before.before.before.without.ensures (nobody c.enum_told.given.1 c.before.before.lowest.ensures) c.before.before.before.loop.invariant
+returns c = narrow_end _ _ c.before.before.before.before.before.before.before.requires c.before.before.before.before.before.without.ensures (nobody c.enum_told.given.1 c.before.before.lowest.ensures) c.before.before.before.loop.invariant
 
 mul-union : tie.Need-overflow-mul-union invariant-loop decreases-loop
 mul-union c = let l = picked c.before.x.given.1 c.before.before.before.lowest.ensures in omega arith
@@ -65,13 +65,13 @@ but-lowest-requires : tie.Need-but-lowest-requires invariant-loop decreases-loop
 but-lowest-requires c κs = search rules
 
 taken : (c : tie.After-but-lowest invariant-loop decreases-loop) → Taken c.before.before.before.before.before.before.before.before.before.loop.rest c.before.before.before.before.before.before.x.given.0.0 c.but-lowest.result
-taken c = taken-by (picked c.before.before.before.before.before.before.x.given.1 c.before.before.before.before.before.before.before.before.lowest.ensures) c.but-lowest.ensures
+taken c = taken_by (picked c.before.before.before.before.before.before.x.given.1 c.before.before.before.before.before.before.before.before.lowest.ensures) c.but-lowest.ensures
 
 loop-less : tie.Need-loop-smaller invariant-loop decreases-loop
-loop-less c = taken-less (taken c)
+loop-less c = taken_less (taken c)
 
 loop-again : tie.Need-loop-preserved invariant-loop decreases-loop
-loop-again c = narrow-turn _ _ c.before.before.union.result c.before.common.result (taken c) c.before.before.before.before.before.before.before.before.before.loop.invariant c.before.before.union.ensures c.before.common.ensures
+loop-again c = narrow_turn _ _ c.before.before.union.result c.before.common.result (taken c) c.before.before.before.before.before.before.before.before.before.loop.invariant c.before.before.union.ensures c.before.common.ensures
 
 pub administrators-of-spec : {M : Type 1} → statement M
 administrators-of-spec =

@@ -3,8 +3,8 @@ use Prim.Native.Nat.{ℕ}
 use mathlib.Core.Path.{sym, subst}
 use mathlib.Core.List.{List}
 use lib.Count.{ones}
-use Rattle.sets.proofs.Members.{Taken, taken-by, picked, nobody, taken-less}
-use Rattle.hierarchy.proofs.Managing.{Filling, fill_start, fill-turn, fill_end}
+use Rattle.sets.proofs.Members.{Taken, taken_by, picked, nobody, taken_less}
+use Rattle.hierarchy.proofs.Managing.{Filling, fill_start, fill_turn, fill_end}
 use Rattle.hierarchy.proofs.managers.fill_managers.Statement.{statement}
 use Rattle.hierarchy.proofs.managers.fill_managers.Tie as tie
 
@@ -45,13 +45,13 @@ but-lowest-requires : tie.Need-but-lowest-requires invariant-loop decreases-loop
 but-lowest-requires c κs = search rules
 
 taken : (c : tie.After-but-lowest invariant-loop decreases-loop) → Taken c.before.before.before.before.before.before.before.loop.rest c.before.before.before.before.r.given.0.0 c.but-lowest.result
-taken c = taken-by (picked c.before.before.before.before.r.given.1 c.before.before.before.before.before.before.lowest.ensures) c.but-lowest.ensures
+taken c = taken_by (picked c.before.before.before.before.r.given.1 c.before.before.before.before.before.before.lowest.ensures) c.but-lowest.ensures
 
 loop-less : tie.Need-loop-smaller invariant-loop decreases-loop
-loop-less c = taken-less (taken c)
+loop-less c = taken_less (taken c)
 
 loop-again : tie.Need-loop-preserved invariant-loop decreases-loop
-loop-again c = fill-turn c.before.before.administrators-of.result c.before.nearest.result (taken c) c.before.before.before.before.before.before.before.loop.invariant c.before.before.administrators-of.ensures c.before.nearest.ensures
+loop-again c = fill_turn c.before.before.administrators-of.result c.before.nearest.result (taken c) c.before.before.before.before.before.before.before.loop.invariant c.before.before.administrators-of.ensures c.before.nearest.ensures
 
 pub fill-managers-spec : {M : Type 1} → statement M
 fill-managers-spec =

@@ -6,7 +6,7 @@ use lib.Count.{ones}
 use Rattle.sets.specs.Sets.{HighestRole, Highest}
 use Rattle.sets.specs.declared.Pick.{Pick}
 use Rattle.sets.specs.declared.Pick.TheVariants.{Role}
-use Rattle.hierarchy.proofs.Managing.{Nearing, near-start, near-turn, near-less, near-end}
+use Rattle.hierarchy.proofs.Managing.{Nearing, near_start, near_turn, near_less, near_end}
 use Rattle.hierarchy.proofs.managers.nearest.Statement.{statement}
 use Rattle.hierarchy.proofs.managers.nearest.Tie as tie
 
@@ -21,7 +21,7 @@ top : {s m : ℕ} {p : Pick} → p ≡ Role m → Highest s p → HighestRole s 
 top {s} e h = subst (Highest s) e h
 
 loop-holds : tie.Need-loop-init invariant-loop decreases-loop
-loop-holds c = near-start _ _
+loop-holds c = near_start _ _
 
 highest-requires : tie.Need-highest-requires invariant-loop decreases-loop
 highest-requires c κs = search rules
@@ -33,7 +33,7 @@ enum_told : tie.Need-enum-told invariant-loop decreases-loop
 enum_told c = search rules
 
 returns : tie.Need-returns invariant-loop decreases-loop
-returns c = near-end (subst (Highest _) c.enum_told.given.1 c.before.before.highest.ensures) c.before.before.before.loop.invariant
+returns c = near_end (subst (Highest _) c.enum_told.given.1 c.before.before.highest.ensures) c.before.before.before.loop.invariant
 
 cast-found : tie.Need-overflow-cast-found invariant-loop decreases-loop
 cast-found c = let l = top c.before.m.given.1 c.before.before.before.highest.ensures in omega arith
@@ -51,10 +51,10 @@ common-requires : tie.Need-common-requires invariant-loop decreases-loop
 common-requires c κs = search rules
 
 loop-less : tie.Need-loop-smaller invariant-loop decreases-loop
-loop-less c = let l = top c.before.before.before.before.m.given.1 c.before.before.before.before.before.before.highest.ensures in near-less c.before.before.without.result c.common.result l.role l.member c.before.before.before.before.before.before.before.loop.invariant c.before.before.without.ensures c.common.ensures
+loop-less c = let l = top c.before.before.before.before.m.given.1 c.before.before.before.before.before.before.highest.ensures in near_less c.before.before.without.result c.common.result l.role l.member c.before.before.before.before.before.before.before.loop.invariant c.before.before.without.ensures c.common.ensures
 
 loop-again : tie.Need-loop-preserved invariant-loop decreases-loop
-loop-again c = let l = top c.before.before.before.before.m.given.1 c.before.before.before.before.before.before.highest.ensures in near-turn c.before.before.without.result c.common.result l.role l.member c.before.before.before.before.before.before.before.loop.invariant c.before.before.without.ensures c.common.ensures
+loop-again c = let l = top c.before.before.before.before.m.given.1 c.before.before.before.before.before.before.highest.ensures in near_turn c.before.before.without.result c.common.result l.role l.member c.before.before.before.before.before.before.before.loop.invariant c.before.before.without.ensures c.common.ensures
 
 pub nearest-spec : {M : Type 1} → statement M
 nearest-spec =

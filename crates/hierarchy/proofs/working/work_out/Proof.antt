@@ -1,7 +1,7 @@
 use borrow.Author.Rules.{rules}
 use borrow.Author.Tests.{not-true, not-false}
-use Rattle.sets.proofs.Bools.{false-no}
-use Rattle.hierarchy.proofs.Outcome.{out_of_order, orderly, all-have-one, one-has-none}
+use Rattle.sets.proofs.Bools.{false_no}
+use Rattle.hierarchy.proofs.Outcome.{out_of_order, orderly, all_have_one, one_has_none}
 use Rattle.hierarchy.proofs.working.work_out.Statement.{statement}
 use Rattle.hierarchy.proofs.working.work_out.Tie as tie
 
@@ -30,10 +30,10 @@ all-managed-requires : tie.Need-all-managed-requires
 all-managed-requires c κs = (c.before.fill-managers.ensures _ (orderly c.before.before.before.before.before.before.before.before.before.fill-down.ensures (not-false _ c.before.before.before.before.before.before.before.before.if1.false) c.before.before.before.before.before.fill-up.ensures)).rows
 
 returns-2 : tie.Need-returns-2
-returns-2 c = all-have-one c.before.before.before.before.before.before.before.before.before.before.before.fill-down.ensures (not-false _ c.before.before.before.before.before.before.before.before.before.before.if1.false) c.before.before.before.before.before.before.before.fill-up.ensures (c.before.before.before.fill-managers.ensures _ (orderly c.before.before.before.before.before.before.before.before.before.before.before.fill-down.ensures (not-false _ c.before.before.before.before.before.before.before.before.before.before.if1.false) c.before.before.before.before.before.before.before.fill-up.ensures)) (c.before.all-managed.ensures.0 c.if2.true)
+returns-2 c = all_have_one c.before.before.before.before.before.before.before.before.before.before.before.fill-down.ensures (not-false _ c.before.before.before.before.before.before.before.before.before.before.if1.false) c.before.before.before.before.before.before.before.fill-up.ensures (c.before.before.before.fill-managers.ensures _ (orderly c.before.before.before.before.before.before.before.before.before.before.before.fill-down.ensures (not-false _ c.before.before.before.before.before.before.before.before.before.before.if1.false) c.before.before.before.before.before.before.before.fill-up.ensures)) (c.before.all-managed.ensures.0 c.if2.true)
 
 returns-3 : tie.Need-returns-3
-returns-3 c = one-has-none c.before.before.before.before.before.before.before.before.before.before.before.fill-down.ensures (not-false _ c.before.before.before.before.before.before.before.before.before.before.if1.false) c.before.before.before.before.before.before.before.fill-up.ensures (c.before.before.before.fill-managers.ensures _ (orderly c.before.before.before.before.before.before.before.before.before.before.before.fill-down.ensures (not-false _ c.before.before.before.before.before.before.before.before.before.before.if1.false) c.before.before.before.before.before.before.before.fill-up.ensures)) (λ f. false-no c.if2.false (c.before.all-managed.ensures.1 f))
+returns-3 c = one_has_none c.before.before.before.before.before.before.before.before.before.before.before.fill-down.ensures (not-false _ c.before.before.before.before.before.before.before.before.before.before.if1.false) c.before.before.before.before.before.before.before.fill-up.ensures (c.before.before.before.fill-managers.ensures _ (orderly c.before.before.before.before.before.before.before.before.before.before.before.fill-down.ensures (not-false _ c.before.before.before.before.before.before.before.before.before.before.if1.false) c.before.before.before.before.before.before.before.fill-up.ensures)) (λ f. false_no c.if2.false (c.before.all-managed.ensures.1 f))
 
 pub work-out-spec : {M : Type 1} → statement M
 work-out-spec =

@@ -1,7 +1,7 @@
 use native.Mathlib.Omega.{arith}
 use mathlib.Core.Path.{◌≡◌, refl}
 use mathlib.Core.Logic.{⊎_elim}
-use Rattle.sets.proofs.Bools.{false-no, lt-or-ge}
+use Rattle.sets.proofs.Bools.{false_no, lt_or_ge}
 use Prim.Native.Nat.{ℕ, ◌-◌, ◌<◌}
 use lib.ListN.{length, get_or}
 use Rattle.jobs.proofs.rows.all_roles.Statement.{statement}
@@ -20,7 +20,7 @@ shared-slice-read-if1 : tie.Need-shared-slice-read-if1 invariant-loop decreases-
 shared-slice-read-if1 c = omega arith
 
 returns : tie.Need-returns invariant-loop decreases-loop
-returns c = let l = c.before.before.before.loop in (λ e. absurd (false-no refl e), λ r. absurd (omega (arith, c.if1.true, r l.k (omega arith))))
+returns c = let l = c.before.before.before.loop in (λ e. absurd (false_no refl e), λ r. absurd (omega (arith, c.if1.true, r l.k (omega arith))))
 
 add-k : tie.Need-overflow-add-k invariant-loop decreases-loop
 add-k c = omega arith
@@ -29,7 +29,7 @@ loop-less : tie.Need-loop-smaller invariant-loop decreases-loop
 loop-less c = omega arith
 
 loop-again : tie.Need-loop-preserved invariant-loop decreases-loop
-loop-again c = let l = c.before.before.before.loop in λ j s. ⊎_elim (λ k. l.invariant j k) (λ g. let e : j ≡ l.k = omega arith in rw e (omega (arith, c.if1.false))) (lt-or-ge j l.k)
+loop-again c = let l = c.before.before.before.loop in λ j s. ⊎_elim (λ k. l.invariant j k) (λ g. let e : j ≡ l.k = omega arith in rw e (omega (arith, c.if1.false))) (lt_or_ge j l.k)
 
 returns-2 : tie.Need-returns-2 invariant-loop decreases-loop
 returns-2 c = (λ _ j l. c.before.loop.invariant j (omega arith), λ _. refl)

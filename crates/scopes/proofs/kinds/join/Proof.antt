@@ -1,7 +1,7 @@
 use mathlib.Core.Path.{refl, sym}
 use borrow.Author.Rules.{rules}
 use Rattle.hierarchy.specs.Tables.{join, joins}
-use Rattle.hierarchy.proofs.Joins.{join-out, out-join}
+use Rattle.hierarchy.proofs.Joins.{join_out, out_join}
 use Rattle.scopes.proofs.kinds.join.Statement.{statement}
 use Rattle.scopes.proofs.kinds.join.Tie as tie
 
@@ -19,10 +19,10 @@ unfolding join joins
 returns c = refl
 
 returns-2 : tie.Need-returns-2
-returns-2 c = sym (join-out _ _ c.if2.false)
+returns-2 c = sym (join_out _ _ c.if2.false)
 
 returns-3 : tie.Need-returns-3
-returns-3 c = sym (out-join _ _ c.if1.false)
+returns-3 c = sym (out_join _ _ c.if1.false)
 
 pub join-spec : {M : Type 1} → statement M
 join-spec =

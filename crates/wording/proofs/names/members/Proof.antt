@@ -3,7 +3,7 @@ use native.Mathlib.Omega.{arith}
 use lib.ListN.{length}
 use borrow.Author.Rules.{rules}
 use Rattle.wording.proofs.Cutting.{Turn, turn}
-use Rattle.wording.proofs.Lists.{Listing, list-start, list_over, list-wrong, list-next}
+use Rattle.wording.proofs.Lists.{Listing, list_start, list_over, list_wrong, list_next}
 use Rattle.wording.proofs.names.members.Statement.{statement}
 use Rattle.wording.proofs.names.members.Tie as tie
 
@@ -14,7 +14,7 @@ abbrev decreases-loop : tie.decreases-loop
 decreases-loop text rights n set₀ from₀ set from = length text + 1 - from
 
 loop-holds : tie.Need-loop-init invariant-loop decreases-loop
-loop-holds c = list-start _ _
+loop-holds c = list_start _ _
 
 piece-end-requires : tie.Need-piece-end-requires invariant-loop decreases-loop
 piece-end-requires c κs = search rules
@@ -38,7 +38,7 @@ most-requires : tie.Need-most-requires invariant-loop decreases-loop
 most-requires c κs = search rules
 
 returns : tie.Need-returns invariant-loop decreases-loop
-returns c = list-wrong c.before.before.before.before.before.before.loop.invariant (cut c.before.before.before.before) c.before.before.name.ensures (omega arith)
+returns c = list_wrong c.before.before.before.before.before.before.loop.invariant (cut c.before.before.before.before) c.before.before.name.ensures (omega arith)
 
 with-requires : tie.Need-with-requires invariant-loop decreases-loop
 with-requires c κs = search rules
@@ -50,7 +50,7 @@ loop-less : tie.Need-loop-smaller invariant-loop decreases-loop
 loop-less c = let t = cut c.before.before.before.before.before in omega arith
 
 loop-again : tie.Need-loop-preserved invariant-loop decreases-loop
-loop-again c = list-next c.before.before.before.before.before.before.before.loop.invariant (cut c.before.before.before.before.before) c.before.before.before.name.ensures (omega arith) c.with.result (omega (arith, c.with.type-inv)) c.with.ensures
+loop-again c = list_next c.before.before.before.before.before.before.before.loop.invariant (cut c.before.before.before.before.before) c.before.before.before.name.ensures (omega arith) c.with.result (omega (arith, c.with.type-inv)) c.with.ensures
 
 returns-2 : tie.Need-returns-2 invariant-loop decreases-loop
 returns-2 c = list_over c.before.loop.invariant c.loop-test.false

@@ -3,9 +3,9 @@ use Prim.Native.Nat.{◌+◌, ◌-◌}
 use native.Mathlib.Omega.{arith}
 use lib.ListN.{length}
 use borrow.Author.Rules.{rules}
-use Rattle.sets.proofs.Bools.{test-unique}
+use Rattle.sets.proofs.Bools.{test_unique}
 use Rattle.wording.proofs.Cutting.{Turn, turn}
-use Rattle.wording.proofs.Placing.{alike_is, Counting, count-start, count-over, count-here, count_next}
+use Rattle.wording.proofs.Placing.{alike_is, Counting, count_start, count_over, count_here, count_next}
 use Rattle.wording.proofs.names.place_in.Statement.{statement}
 use Rattle.wording.proofs.names.place_in.Tie as tie
 
@@ -16,7 +16,7 @@ abbrev decreases-loop : tie.decreases-loop
 decreases-loop text names n k₀ from₀ k from = length names + 1 - from
 
 loop-holds : tie.Need-loop-init invariant-loop decreases-loop
-loop-holds c = count-start _ _
+loop-holds c = count_start _ _
 
 piece-end-requires : tie.Need-piece-end-requires invariant-loop decreases-loop
 piece-end-requires c κs = search rules
@@ -37,7 +37,7 @@ same-requires : tie.Need-same-requires invariant-loop decreases-loop
 same-requires c κs = search rules
 
 returns : tie.Need-returns invariant-loop decreases-loop
-returns c = (count-here c.before.before.before.before.before.loop.invariant (cut c.before.before.before) (sym (test-unique c.before.same.ensures (alike_is _ _)) ∙ c.if1.true), omega arith)
+returns c = (count_here c.before.before.before.before.before.loop.invariant (cut c.before.before.before) (sym (test_unique c.before.same.ensures (alike_is _ _)) ∙ c.if1.true), omega arith)
 
 add-k : tie.Need-overflow-add-k invariant-loop decreases-loop
 add-k c = omega arith
@@ -49,10 +49,10 @@ loop-less : tie.Need-loop-smaller invariant-loop decreases-loop
 loop-less c = let t = cut c.before.before.before in omega arith
 
 loop-again : tie.Need-loop-preserved invariant-loop decreases-loop
-loop-again c = count_next c.before.before.before.before.before.loop.invariant (cut c.before.before.before) (sym (test-unique c.before.same.ensures (alike_is _ _)) ∙ c.if1.false)
+loop-again c = count_next c.before.before.before.before.before.loop.invariant (cut c.before.before.before) (sym (test_unique c.before.same.ensures (alike_is _ _)) ∙ c.if1.false)
 
 returns-2 : tie.Need-returns-2 invariant-loop decreases-loop
-returns-2 c = (count-over c.before.loop.invariant c.loop-test.false, omega arith)
+returns-2 c = (count_over c.before.loop.invariant c.loop-test.false, omega arith)
 
 pub place-in-spec : {M : Type 1} → statement M
 place-in-spec =

@@ -3,7 +3,7 @@ use Prim.Native.Nat.{◌-◌}
 use native.Mathlib.Omega.{arith}
 use lib.ListN.{length}
 use borrow.Author.Rules.{rules}
-use Rattle.wording.proofs.Cutting.{end_of, end-over, end-turn}
+use Rattle.wording.proofs.Cutting.{end_of, end_over, end_turn}
 use Rattle.wording.proofs.pieces.piece_end.Statement.{statement}
 use Rattle.wording.proofs.pieces.piece_end.Tie as tie
 
@@ -25,7 +25,7 @@ separates-requires c κs = search rules
 returns : tie.Need-returns invariant-loop decreases-loop
 returns c =
     let l = c.before.before.before in
-    sym (l.before.loop.invariant ∙ end-turn _ _ _ l.loop-test.true ∙ rw (sym c.before.separates.ensures ∙ c.if1.true))
+    sym (l.before.loop.invariant ∙ end_turn _ _ _ l.loop-test.true ∙ rw (sym c.before.separates.ensures ∙ c.if1.true))
 
 add_at : tie.Need-overflow-add-at invariant-loop decreases-loop
 add_at c = omega arith
@@ -36,10 +36,10 @@ loop-less c = omega arith
 loop-again : tie.Need-loop-preserved invariant-loop decreases-loop
 loop-again c =
     let l = c.before.before.before in
-    l.before.loop.invariant ∙ end-turn _ _ _ l.loop-test.true ∙ rw (sym c.before.separates.ensures ∙ c.if1.false)
+    l.before.loop.invariant ∙ end_turn _ _ _ l.loop-test.true ∙ rw (sym c.before.separates.ensures ∙ c.if1.false)
 
 returns-2 : tie.Need-returns-2 invariant-loop decreases-loop
-returns-2 c = sym (c.before.loop.invariant ∙ end-over _ _ _ c.loop-test.false)
+returns-2 c = sym (c.before.loop.invariant ∙ end_over _ _ _ c.loop-test.false)
 
 pub piece-end-spec : {M : Type 1} → statement M
 piece-end-spec =

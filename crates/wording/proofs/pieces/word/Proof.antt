@@ -4,7 +4,7 @@ use Prim.Native.Nat.{◌+◌, ◌-◌}
 use native.Mathlib.Omega.{arith}
 use lib.ListN.{length}
 use borrow.Author.Rules.{rules}
-use Rattle.wording.proofs.Cutting.{Turn, turn, Looking, look-start, look-over, look_none, look-here, look-past}
+use Rattle.wording.proofs.Cutting.{Turn, turn, Looking, look_start, look_over, look_none, look_here, look_past}
 use Rattle.wording.proofs.pieces.word.Statement.{statement}
 use Rattle.wording.proofs.pieces.word.Tie as tie
 
@@ -15,7 +15,7 @@ abbrev decreases-loop : tie.decreases-loop
 decreases-loop line k n left₀ from₀ left from = length line + 1 - from
 
 loop-holds : tie.Need-loop-init invariant-loop decreases-loop
-loop-holds c = look-start _ _
+loop-holds c = look_start _ _
 
 piece-end-requires : tie.Need-piece-end-requires invariant-loop decreases-loop
 piece-end-requires c κs = search rules
@@ -34,7 +34,7 @@ part-result-end c = (cut c.before.before).high
 
 returns : tie.Need-returns invariant-loop decreases-loop
 returns c =
-    let here = look-here c.before.before.before.before.before.loop.invariant (cut c.before.before.before) c.before.before.if1.true c.before.if2.true in
+    let here = look_here c.before.before.before.before.before.loop.invariant (cut c.before.before.before) c.before.before.if1.true c.before.if2.true in
     (here.0, refl, omega (arith, here.1))
 
 sub-left : tie.Need-overflow-sub-left invariant-loop decreases-loop
@@ -50,7 +50,7 @@ loop-again : tie.Need-loop-preserved invariant-loop decreases-loop
 loop-again c =
     let l = c.before.before.before.loop.invariant in
     let t = cut c.before in
-    ⊎_elim (λ w. rw w.2 (look-past l t w.0.taken w.1.left)) (λ w. rw w.1 (look_none l t w.0.left)) c.if1.branch
+    ⊎_elim (λ w. rw w.2 (look_past l t w.0.taken w.1.left)) (λ w. rw w.1 (look_none l t w.0.left)) c.if1.branch
 
 sub-result-2 : tie.Need-overflow-sub-result-2 invariant-loop decreases-loop
 sub-result-2 c = search rules
@@ -62,7 +62,7 @@ part-result-end-2 : tie.Need-slice-bounds-result-end-2 invariant-loop decreases-
 part-result-end-2 c = search rules
 
 returns-2 : tie.Need-returns-2 invariant-loop decreases-loop
-returns-2 c = let none = look-over c.before.before.loop.invariant c.before.loop-test.false in (none.0, refl, omega (arith, none.1))
+returns-2 c = let none = look_over c.before.before.loop.invariant c.before.loop-test.false in (none.0, refl, omega (arith, none.1))
 
 pub word-spec : {M : Type 1} → statement M
 word-spec =

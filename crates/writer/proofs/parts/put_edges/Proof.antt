@@ -3,9 +3,9 @@ use Prim.Native.Nat.{◌+◌, ◌-◌, ◌≤◌}
 use native.Mathlib.Omega.{arith}
 use lib.ListN.{length, get_or}
 use Rattle.hierarchy.specs.Tables.{tables}
-use Rattle.writer.specs.Parts.{rowBytes}
-use Rattle.writer.proofs.Puts.{rest-long}
-use Rattle.writer.proofs.Writings.{EdgesPut, edges-put-start, edges-put-same, edges-put-few, edges-put-small, edges-put-room, edges-put-turn, edges-put-end}
+use Rattle.writer.specs.Parts.{row_bytes}
+use Rattle.writer.proofs.Puts.{rest_long}
+use Rattle.writer.proofs.Writings.{EdgesPut, edges_put_start, edges_put_same, edges_put_few, edges_put_small, edges_put_room, edges_put_turn, edges_put_end}
 use Rattle.writer.proofs.parts.put_edges.Statement.{statement}
 use Rattle.writer.proofs.parts.put_edges.Tie as tie
 
@@ -16,7 +16,7 @@ abbrev decreases-loop : tie.decreases-loop
 decreases-loop i a out₀ at₀ x₀ out at x = 64 - x
 
 loop-holds : tie.Need-loop-init invariant-loop decreases-loop
-loop-holds c = edges-put-start _ _
+loop-holds c = edges_put_start _ _
 
 mul-put-row : tie.Need-overflow-mul-put-row invariant-loop decreases-loop
 mul-put-row c = omega arith
@@ -31,13 +31,13 @@ element-copy-out-put-row-2 : tie.Need-element-copy-out-put-row-2 invariant-loop 
 element-copy-out-put-row-2 c = omega arith
 
 few : (c : tie.In-loop invariant-loop decreases-loop) → c.before.loop.at ≤ length c.before.loop.out
-few c = edges-put-few c.before.before.before.requires c.before.loop.invariant
+few c = edges_put_few c.before.before.before.requires c.before.loop.invariant
 
 room : (c : tie.In-loop invariant-loop decreases-loop)
     → let s = c.before.before.before in
     let x = c.before.loop.x in
-    c.before.loop.at + length (rowBytes x (get_or s.args.i.now x 0) (get_or s.args.a.now x 0)) ≤ length c.before.loop.out
-room c = edges-put-room c.before.before.before.requires c.before.loop.invariant c.loop-test.true
+    c.before.loop.at + length (row_bytes x (get_or s.args.i.now x 0) (get_or s.args.a.now x 0)) ≤ length c.before.loop.out
+room c = edges_put_room c.before.before.before.requires c.before.loop.invariant c.loop-test.true
 
 sub-put-row : tie.Need-overflow-sub-put-row invariant-loop decreases-loop
 sub-put-row c = few c.before.before
@@ -52,16 +52,16 @@ put-row-requires : tie.Need-put-row-requires invariant-loop decreases-loop
 put-row-requires c κs =
     let l = c.before.before.before.before.loop in
     let h = room c.before.before.before in
-    (c.before.before.before.loop-test.true, omega (arith, rest-long l.at l.out))
+    (c.before.before.before.loop-test.true, omega (arith, rest_long l.at l.out))
 
 loop-again : tie.Need-loop-preserved invariant-loop decreases-loop
 loop-again c =
     let l = c.before.before.before.before.before.before.before in
-    edges-put-turn l.before.before.requires l.loop.invariant c.before.before.before.before.before.before.loop-test.true _ c.before.before.put-row.result
+    edges_put_turn l.before.before.requires l.loop.invariant c.before.before.before.before.before.before.loop-test.true _ c.before.before.put-row.result
     c.before.before.put-row.ensures.0 c.before.before.put-row.ensures.1
 
 add_at : tie.Need-overflow-add-at invariant-loop decreases-loop
-add_at c = let h = edges-put-small c.before.before.before.before.before.before.before.before.before.requires (loop-again c) in omega arith
+add_at c = let h = edges_put_small c.before.before.before.before.before.before.before.before.before.requires (loop-again c) in omega arith
 
 add-x : tie.Need-overflow-add-x invariant-loop decreases-loop
 add-x c = omega arith
@@ -70,10 +70,10 @@ loop-less : tie.Need-loop-smaller invariant-loop decreases-loop
 loop-less c = omega arith
 
 same_length : tie.Need-same-length invariant-loop decreases-loop
-same_length c = edges-put-same c.before.before.before.requires c.before.loop.invariant
+same_length c = edges_put_same c.before.before.before.requires c.before.loop.invariant
 
 returns : tie.Need-returns invariant-loop decreases-loop
-returns c = edges-put-end c.before.before.before.requires c.before.loop.invariant c.loop-test.false
+returns c = edges_put_end c.before.before.before.requires c.before.loop.invariant c.loop-test.false
 
 pub put-edges-spec : {M : Type 1} → statement M
 put-edges-spec =

@@ -1,7 +1,7 @@
 use borrow.Author.Rules.{rules}
 use Rattle.hierarchy.specs.Tables.{kind}
 use Rattle.writer.specs.Files.{kind_at}
-use Rattle.writer.proofs.Writings.{tail-room, file-put}
+use Rattle.writer.proofs.Writings.{tail_room, file_put}
 use Rattle.writer.proofs.parts.put_file.Statement.{statement}
 use Rattle.writer.proofs.parts.put_file.Tie as tie
 
@@ -47,7 +47,7 @@ unfolding kind_at kind
 put-tail-requires c κs =
     let e = c.before.before.before in
     let r = e.before.before.before.before in
-    tail-room r.before.before.before.requires r.put-roles.new.1.0 e.put-edges.new.1.1.0 r.put-roles.ensures e.put-edges.ensures
+    tail_room r.before.before.before.requires r.put-roles.new.1.0 e.put-edges.new.1.1.0 r.put-roles.ensures e.put-edges.ensures
 
 same_length : tie.Need-same-length
 same_length c = search rules
@@ -58,7 +58,7 @@ returns c =
     let w = c.before.before in
     let e = w.before.before.before.before in
     let r = e.before.before.before.before in
-    file-put r.before.before.before.requires r.put-roles.new.1.0 e.put-edges.new.1.1.0 r.put-roles.ensures e.put-edges.ensures w.put-tail.new.1.1.1.1.1.0 w.put-tail.ensures
+    file_put r.before.before.before.requires r.put-roles.new.1.0 e.put-edges.new.1.1.0 r.put-roles.ensures e.put-edges.ensures w.put-tail.new.1.1.1.1.1.0 w.put-tail.ensures
 
 pub put-file-spec : {M : Type 1} → statement M
 put-file-spec =

@@ -2,9 +2,9 @@ use Prim.Native.Nat.{◌/◌, ◌%◌}
 use native.Mathlib.Omega.{arith}
 use lib.ListN.{length-set}
 use borrow.Author.Rules.{rules}
-use Rattle.frames.specs.Frames.{rightsTrailer}
-use Rattle.writer.proofs.Puts.{put-length}
-use Rattle.writer.proofs.Writings.{six-left, rights-trailer-put}
+use Rattle.frames.specs.Frames.{rights_trailer}
+use Rattle.writer.proofs.Puts.{put_length}
+use Rattle.writer.proofs.Writings.{six_left, rights_trailer_put}
 use Rattle.writer.proofs.parts.put_rights_trailer.Statement.{statement}
 use Rattle.writer.proofs.parts.put_rights_trailer.Tie as tie
 
@@ -30,16 +30,16 @@ part-put-trailer-end : tie.Need-slice-bounds-put-trailer-end
 part-put-trailer-end c = search rules
 
 put-trailer-requires : tie.Need-put-trailer-requires
-put-trailer-requires c κs = let s = c.before.before in (s.requires.1, s.requires.2, six-left s.args.out.now (s.args.rights % 256) (s.args.rights / 256) s.requires.3)
+put-trailer-requires c κs = let s = c.before.before in (s.requires.1, s.requires.2, six_left s.args.out.now (s.args.rights % 256) (s.args.rights / 256) s.requires.3)
 
 returns : tie.Need-returns
 returns c =
     let s = c.before.before.before.before.before in
-    rights-trailer-put s.args.out.now s.args.rights s.args.edges s.args.roles s.requires.3 c.before.before.put-trailer.new.1.1.1.0 c.before.before.put-trailer.ensures
+    rights_trailer_put s.args.out.now s.args.rights s.args.edges s.args.roles s.requires.3 c.before.before.put-trailer.new.1.1.1.0 c.before.before.put-trailer.ensures
 
 same_length : tie.Need-same-length
-unfolding rightsTrailer
-same_length c = let s = c.before.before.before.before.before in put-length (rightsTrailer s.args.rights s.args.edges s.args.roles) s.args.out.now _ (returns c) s.requires.3
+unfolding rights_trailer
+same_length c = let s = c.before.before.before.before.before in put_length (rights_trailer s.args.rights s.args.edges s.args.roles) s.args.out.now _ (returns c) s.requires.3
 
 pub put-rights-trailer-spec : {M : Type 1} → statement M
 put-rights-trailer-spec =

@@ -5,10 +5,10 @@ use native.Mathlib.Omega.{arith}
 use lib.Count.{ones}
 use lib.ListN.{length, set, length-set}
 use Rattle.sets.specs.Sets.{LowestRole}
-use Rattle.sets.proofs.Laws.{ones-less}
+use Rattle.sets.proofs.Laws.{ones_less}
 use Rattle.sets.proofs.Members.{picked, nobody}
 use Rattle.hierarchy.specs.Tables.{kind_of}
-use Rattle.writer.proofs.Writings.{RowPut, row-put-start, row-put-same, row-put-few, row-put-end, row-put-room, row-put-turn}
+use Rattle.writer.proofs.Writings.{RowPut, row_put_start, row_put_same, row_put_few, row_put_end, row_put_room, row_put_turn}
 use Rattle.writer.proofs.parts.put_row.Statement.{statement}
 use Rattle.writer.proofs.parts.put_row.Tie as tie
 
@@ -22,7 +22,7 @@ union-requires : tie.Need-union-requires invariant-loop decreases-loop
 union-requires c κs = search rules
 
 loop-holds : tie.Need-loop-init invariant-loop decreases-loop
-loop-holds c = row-put-start _ _ _ _ _ c.union.ensures
+loop-holds c = row_put_start _ _ _ _ _ c.union.ensures
 
 lowest-requires : tie.Need-lowest-requires invariant-loop decreases-loop
 lowest-requires c κs = search rules
@@ -34,19 +34,19 @@ enum_told : tie.Need-enum-told invariant-loop decreases-loop
 enum_told c = search rules
 
 same_length : tie.Need-same-length invariant-loop decreases-loop
-same_length c = row-put-same c.before.before.before.before.before.before.requires.1 c.before.before.before.loop.invariant
+same_length c = row_put_same c.before.before.before.before.before.before.requires.1 c.before.before.before.loop.invariant
 
 returns : tie.Need-returns invariant-loop decreases-loop
-returns c = row-put-end c.before.before.before.before.before.before.requires.1 c.before.before.before.loop.invariant (nobody c.enum_told.given.1 c.before.before.lowest.ensures)
+returns c = row_put_end c.before.before.before.before.before.before.requires.1 c.before.before.before.loop.invariant (nobody c.enum_told.given.1 c.before.before.lowest.ensures)
 
 low : (c : tie.After-known-told invariant-loop decreases-loop) → LowestRole c.before.before.before.before.loop.rest c.before.junior.given.0.0
 low c = picked c.before.junior.given.1 c.before.before.before.lowest.ensures
 
 room : (c : tie.After-known-told invariant-loop decreases-loop) → c.before.before.before.before.loop.at + 3 ≤ length c.before.before.before.before.loop.out
-room c = row-put-room c.before.before.before.before.before.before.before.requires.1 c.before.before.before.before.loop.invariant (low c)
+room c = row_put_room c.before.before.before.before.before.before.before.requires.1 c.before.before.before.before.loop.invariant (low c)
 
 few : (c : tie.After-known-told invariant-loop decreases-loop) → c.before.before.before.before.loop.at ≤ 192
-few c = row-put-few c.before.before.before.before.before.before.before.requires.1 c.before.before.before.before.loop.invariant
+few c = row_put_few c.before.before.before.before.before.before.before.requires.1 c.before.before.before.before.loop.invariant
 
 cast-out : tie.Need-overflow-cast-out invariant-loop decreases-loop
 cast-out c = omega arith
@@ -85,7 +85,7 @@ add_at : tie.Need-overflow-add-at invariant-loop decreases-loop
 add_at c = let l = few c.before.before.before.before in omega arith
 
 loop-less : tie.Need-loop-smaller invariant-loop decreases-loop
-loop-less c = let l = low c.before.before.before.before in ones-less _ _ _ l.role l.member (c.but-lowest.ensures.rest _ l)
+loop-less c = let l = low c.before.before.before.before in ones_less _ _ _ l.role l.member (c.but-lowest.ensures.rest _ l)
 
 loop-again : tie.Need-loop-preserved invariant-loop decreases-loop
 loop-again c =
@@ -95,7 +95,7 @@ loop-again c =
     subst
     (λ (z : ℕ). RowPut s.args.senior s.args.i s.args.a s.args.out.now (set (set (set l.out l.at s.args.senior) (l.at + 1) k.before.junior.given.0.0) (l.at + 2) z) c.but-lowest.result (l.at + 3))
     (sym (c.before.kind.ensures ∙ ap₂ kind_of c.before.before.before.has.ensures c.before.before.has2.ensures))
-    (row-put-turn s.requires.1 l.invariant (low k) c.but-lowest.result (c.but-lowest.ensures.rest _ (low k)))
+    (row_put_turn s.requires.1 l.invariant (low k) c.but-lowest.result (c.but-lowest.ensures.rest _ (low k)))
 
 pub put-row-spec : {M : Type 1} → statement M
 put-row-spec =

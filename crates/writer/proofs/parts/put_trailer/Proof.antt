@@ -1,7 +1,7 @@
 use native.Mathlib.Omega.{arith}
 use lib.ListN.{length-set}
 use borrow.Author.Rules.{rules}
-use Rattle.writer.specs.Parts.{lastSix}
+use Rattle.writer.specs.Parts.{last_six}
 use Rattle.writer.proofs.Puts.{put_six}
 use Rattle.writer.proofs.parts.put_trailer.Statement.{statement}
 use Rattle.writer.proofs.parts.put_trailer.Tie as tie
@@ -46,7 +46,7 @@ same_length : tie.Need-same-length
 same_length c = search rules
 
 returns : tie.Need-returns
-unfolding lastSix
+unfolding last_six
 returns c = put_six c.args.out.now _ _ _ _ _ _ c.requires.2
 
 pub put-trailer-spec : {M : Type 1} → statement M

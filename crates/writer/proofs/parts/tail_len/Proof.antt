@@ -1,17 +1,17 @@
 use borrow.Author.Rules.{rules}
-use Rattle.writer.specs.Parts.{tailLength}
+use Rattle.writer.specs.Parts.{tail_length}
 use Rattle.writer.proofs.parts.tail_len.Statement.{statement}
 use Rattle.writer.proofs.parts.tail_len.Tie as tie
 
 returns : tie.Need-returns
-unfolding tailLength
+unfolding tail_length
 returns c = rw c.if1.true
 
 add-result : tie.Need-overflow-add-result
 add-result c = search rules
 
 returns-2 : tie.Need-returns-2
-unfolding tailLength
+unfolding tail_length
 returns-2 c = rw c.if1.false
 
 pub tail-len-spec : {M : Type 1} → statement M

@@ -4,8 +4,8 @@ use borrow.Author.Tests.{not-true, not-false}
 use borrow.Author.Rules.{rules}
 use Rattle.hierarchy.specs.Tables.{Tables, tables}
 use Rattle.writer.specs.Parts.{PlaceAnswer}
-use Rattle.writer.proofs.InThree.{up-to-it}
-use Rattle.writer.proofs.Places.{spanned, too-high, not_live, no-records, some-records}
+use Rattle.writer.proofs.InThree.{up_to_it}
+use Rattle.writer.proofs.Places.{spanned, too_high, not_live, no_records, some_records}
 use Rattle.writer.proofs.records.place.Statement.{statement}
 use Rattle.writer.proofs.records.place.Tie as tie
 
@@ -16,7 +16,7 @@ nothing-requires : tie.Need-nothing-requires
 nothing-requires c κs = search rules
 
 returns : tie.Need-returns
-returns c = spanned (PlaceAnswer (given c.before.before) c.before.before.args.role) c.nothing.ensures (too-high (given c.before.before) c.before.before.args.role c.before.if1.true)
+returns c = spanned (PlaceAnswer (given c.before.before) c.before.before.args.role) c.nothing.ensures (too_high (given c.before.before) c.before.before.args.role c.before.if1.true)
 
 has-requires : tie.Need-has-requires
 has-requires c κs = search rules
@@ -37,18 +37,18 @@ start-of-requires-2 : tie.Need-start-of-requires-2
 start-of-requires-2 c κs = search rules
 
 sub-len : tie.Need-overflow-sub-len
-sub-len c = omega (arith, c.before.start_of.ensures, c.start-of2.ensures, up-to-it (given c.before.before.before.before.before) c.before.before.before.before.before.args.role)
+sub-len c = omega (arith, c.before.start_of.ensures, c.start-of2.ensures, up_to_it (given c.before.before.before.before.before) c.before.before.before.before.before.args.role)
 
 nothing-requires-3 : tie.Need-nothing-requires-3
 nothing-requires-3 c κs = search rules
 
 returns-3 : tie.Need-returns-3
 returns-3 c = let d = c.before in
-    spanned (PlaceAnswer (given d.before.before.before.before.before.before) d.before.before.before.before.before.before.args.role) c.nothing3.ensures (no-records (given d.before.before.before.before.before.before) d.before.before.before.before.before.before.args.role d.before.before.before.before.before.if1.false (sym d.before.before.before.before.has.ensures ∙ not-false _ d.before.before.before.if2.false)
+    spanned (PlaceAnswer (given d.before.before.before.before.before.before) d.before.before.before.before.before.before.args.role) c.nothing3.ensures (no_records (given d.before.before.before.before.before.before) d.before.before.before.before.before.before.args.role d.before.before.before.before.before.if1.false (sym d.before.before.before.before.has.ensures ∙ not-false _ d.before.before.before.if2.false)
     d.before.before.start_of.result d.before.start-of2.result d.before.before.start_of.ensures d.before.start-of2.ensures d.if3.true)
 
 returns-4 : tie.Need-returns-4
-returns-4 c = some-records (given c.before.before.before.before.before.before) c.before.before.before.before.before.before.args.role c.before.before.before.before.before.if1.false (sym c.before.before.before.before.has.ensures ∙ not-false _ c.before.before.before.if2.false)
+returns-4 c = some_records (given c.before.before.before.before.before.before) c.before.before.before.before.before.before.args.role c.before.before.before.before.before.if1.false (sym c.before.before.before.before.has.ensures ∙ not-false _ c.before.before.before.if2.false)
     c.before.before.start_of.result c.before.start-of2.result c.before.before.start_of.ensures c.before.start-of2.ensures c.if3.false
 
 pub place-spec : {M : Type 1} → statement M

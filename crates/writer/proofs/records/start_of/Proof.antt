@@ -2,8 +2,8 @@ use Prim.Native.Nat.{◌*◌, ◌≤◌}
 use native.Mathlib.Omega.{arith}
 use borrow.Author.Rules.{rules}
 use Rattle.writer.specs.Files.{edge?}
-use Rattle.writer.specs.Parts.{kindsIn}
-use Rattle.writer.proofs.Ascending.{from-short}
+use Rattle.writer.specs.Parts.{kinds_in}
+use Rattle.writer.proofs.Ascending.{from_short}
 use Rattle.writer.proofs.Places.{count_at}
 use Rattle.writer.proofs.records.start_of.Statement.{statement}
 use Rattle.writer.proofs.records.start_of.Tie as tie
@@ -18,7 +18,7 @@ edges-below-requires : tie.Need-edges-below-requires
 edges-below-requires c κs = search rules
 
 few : (c : tie.After-edges-below) → c.edges-below.result ≤ 4096
-few c = let s = c.before.before.args in omega (arith, c.edges-below.ensures, from-short (s.senior * 64) 0 (edge? (kindsIn s.i.now s.a.now)), c.before.before.requires)
+few c = let s = c.before.before.args in omega (arith, c.edges-below.ensures, from_short (s.senior * 64) 0 (edge? (kinds_in s.i.now s.a.now)), c.before.before.requires)
 
 mul-result : tie.Need-overflow-mul-result
 mul-result c = omega (arith, few c)
