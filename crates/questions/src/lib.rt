@@ -3,6 +3,7 @@
 // Each checks soundness once, and answers 1, 2 or 3 with no, none or zero, or 0 with the answer. The forms with `_of` are on a board that is
 // lent part by part. Those with `_trusting` go on with a board that was just found sound: the answer is the one read off what is lent,
 // whatever that holds.
+#![tactic(auto)]
 ghost use Rattle.hierarchy.specs.First.{First};
 ghost use Rattle.board.specs.Boards.{board_of};
 ghost use Rattle.questions.specs.Trusting.{DerivesTrusting, ScopeTrusting, ManagerTrusting, StepsTrusting};

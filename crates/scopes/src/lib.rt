@@ -1,6 +1,7 @@
 // The scope of a role, who is in the way, and the join table. Knows sets and the words of `hierarchy`, and no board.
 //
 // Scopes are read off the views of a board, which are lent: whatever two tables are lent, the answer is the one read off them.
+#![tactic(auto)]
 pub mod kinds;
 
 ghost use Rattle.std.specs.Prelude.{◌≡◌, true, ◌↔◌, ℕ, ◌<◌};

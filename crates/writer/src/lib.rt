@@ -5,6 +5,7 @@
 // role bytes begin, each in two bytes, the low one first, and HH. That is the file of a board where role 0 holds all rights and nobody
 // else any. Every other board has a rights byte for each live role, ascending, before the trailer, and the trailer has eight bytes: how far
 // before it the rights bytes begin comes first, and it ends in HR.
+#![tactic(auto)]
 mod parts;
 pub mod records;
 
