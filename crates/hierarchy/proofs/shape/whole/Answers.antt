@@ -3,11 +3,7 @@ use mir.Syntax.{w64}
 use mir.Val.{Fits}
 use borrow.Author.Rules.{rules}
 use Rattle.hierarchy.specs.Tables.{row}
-use Rattle.hierarchy.proofs.shape.whole.Statement.{statement}
-use Rattle.hierarchy.proofs.shape.whole.Tie as tie
+use Rattle.hierarchy.proofs.shape.whole.Goals as goal
 
-returns : tie.Need-returns
+pub returns : goal.returns
 returns c = record { rows = search rules; fits = λ x. let f : Fits w64 (row c.args.t x) = search rules in omega arith }
-
-pub whole-spec : {M : Type 1} → statement M
-whole-spec = tie.close (tie.spec returns)
