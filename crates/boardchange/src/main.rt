@@ -10,6 +10,7 @@
 // Two at once: FILE.lock is made before FILE is read, and only where there is no such file. The new board is written there, reaches the
 // disk, and FILE.lock then takes FILE's name. So whoever reads FILE to decide on it is alone until it has decided, and FILE is at any
 // moment a whole board file. Nothing is said before that, so a 'done' stands for a change that is on the disk.
+#![tactic(auto)]
 mod disk;
 mod given;
 mod input;

@@ -3,6 +3,7 @@
 //
 // Each function on a file opens it first, which works out what its board keeps; what follows reads it there, so that soundness is worked
 // out once.
+#![tactic(auto)]
 pub mod ask;
 pub mod change;
 pub mod lent;
@@ -16,7 +17,7 @@ ghost use Rattle.boardfile.specs.Answers.{ReadAnswer};
 use board::Board;
 use opening::open;
 
-#[derive(Drop)]
+#[derive(Clone, Copy)]
 pub struct Reading {
     pub number: u8,
     pub board: Board,

@@ -1,6 +1,7 @@
 // Lists the board whose file stands on standard input: how many roles and edges it has, then for each live role its number, its line
 // manager or '-', and its steps to role 0. Of a file that is refused it says only so, with the number. Reading the file works all of this
 // out once; the lines are read off the board.
+#![tactic(auto)]
 use board::Board;
 use board::kept::{Manager, line_manager, steps};
 use boardfile::lent::read_into;

@@ -3,6 +3,7 @@
 //
 // `decide` works on the parts of a board, `step` by value, `lent::apply` on a lent board. `decide_trusting` is for a caller that has just
 // found the board sound.
+#![tactic(auto)]
 mod afterwards;
 pub mod lent;
 mod rights;
@@ -20,7 +21,7 @@ use refusals::refused_on_board;
 use rights::change_rights;
 
 // The answer, and the board afterwards.
-#[derive(Drop)]
+#[derive(Clone, Copy)]
 pub struct Outcome {
     pub answer: Answer,
     pub board: Board,

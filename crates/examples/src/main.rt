@@ -1,5 +1,6 @@
 // Runs every example of document 01, and those of the requests, through the board's own functions and writes a line for each: what was asked, then what came
 // back. `stdout` has the same lines, worked out by hand from the documents.
+#![tactic(auto)]
 use board::Command;
 use exampleboards::{
     add_between, add_edge, add_role, change_edge, command, e, f, give_rights, l, p, remove_edge,

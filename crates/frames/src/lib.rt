@@ -1,5 +1,6 @@
 // The frame of a board file: its trailer, and how many role bytes and edge records it announces, with rights bytes or without. Knows bytes and
 // the limits of a board; reads no record.
+#![tactic(auto)]
 ghost use Rattle.std.specs.Prelude.{◌≡◌, ◌+◌, ◌≤◌, length};
 ghost use Rattle.frames.specs.Frames.{word, EndsHH, EndsHR};
 ghost use Rattle.frames.specs.Frames.{edges_back};
@@ -16,7 +17,7 @@ pub const TRAILER: usize = 6;
 
 pub const RIGHTS_TRAILER: usize = 8;
 
-#[derive(Drop)]
+#[derive(Clone, Copy)]
 pub enum Framed {
     Good {
         roles: usize,
@@ -26,7 +27,7 @@ pub enum Framed {
     Bad,
 }
 
-#[derive(Drop)]
+#[derive(Clone, Copy)]
 enum Ending {
     Plain,
     Rights,

@@ -5,6 +5,7 @@
 // them; tables that have no order get the number 7 and no values. All comes from one call, `work_out`: the views, which are down, what each
 // role derives, and up, what derives it; and the line managers. Tables are lent, since a copy of one costs as much as working out a small
 // board.
+#![tactic(auto)]
 mod managers;
 pub mod shape;
 mod views;

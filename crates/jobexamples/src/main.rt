@@ -1,5 +1,6 @@
 // Runs the examples of request 5 through the job list's own functions and writes a line for each: what was asked, then what came back.
 // `stdout` has the same lines, worked out by hand from the documents.
+#![tactic(auto)]
 use board::{Board, Command};
 use commands::step;
 

@@ -7,6 +7,7 @@
 // The list is three rows that the caller lends, and 6 KB long in all, which is more than a call should have on its stack. Place j of
 // `roles` has the role of job j, or a number above 63 where there is no such job; `marks` has 0 for an open job and any other number
 // for a held one, and `members` who holds it.
+#![tactic(auto)]
 ghost use Rattle.board.specs.Boards.{board_of};
 ghost use Rattle.jobs.specs.Lists.{jobs_of};
 ghost use Rattle.jobs.specs.Answers.{StartAnswer, ClaimAnswer, ReleaseAnswer, LookAnswer};
@@ -18,14 +19,14 @@ use rows::{all_roles, clear, copy, mark, role_of};
 mod rows;
 
 // Whether a job is open or held, and by whom.
-#[derive(Drop)]
+#[derive(Clone, Copy)]
 pub enum State {
     IsOpen,
     HeldBy(u32),
 }
 
 // Beside a refusal the state is open.
-#[derive(Drop)]
+#[derive(Clone, Copy)]
 pub struct Seen {
     pub number: u8,
     pub state: State,

@@ -3,6 +3,7 @@
 // Each checks soundness once, and answers 1, 2 or 3 with no, none or zero, or 0 with the answer. The forms with `_of` are on a board that is
 // lent part by part. Those with `_trusting` go on with a board that was just found sound: the answer is the one read off what is lent,
 // whatever that holds.
+#![tactic(auto)]
 ghost use Rattle.hierarchy.specs.First.{First};
 ghost use Rattle.board.specs.Boards.{board_of};
 ghost use Rattle.questions.specs.Trusting.{DerivesTrusting, ScopeTrusting, ManagerTrusting, StepsTrusting};
@@ -15,7 +16,7 @@ use board::{Board, kept};
 use scopes::bars;
 use sets::{has, size};
 
-#[derive(Drop)]
+#[derive(Clone, Copy)]
 pub struct Derived {
     pub number: u8,
     pub yes: bool,
@@ -23,7 +24,7 @@ pub struct Derived {
 
 // `count` is of all roles in the scope that was asked about. Beside number 0 a no has its
 // cause, and with cause 2 the role in the way, which may be role 0; else both are 0.
-#[derive(Drop)]
+#[derive(Clone, Copy)]
 pub struct Scoped {
     pub number: u8,
     pub yes: bool,
@@ -32,13 +33,13 @@ pub struct Scoped {
     pub way: u8,
 }
 
-#[derive(Drop)]
+#[derive(Clone, Copy)]
 pub struct Managed {
     pub number: u8,
     pub manager: Manager,
 }
 
-#[derive(Drop)]
+#[derive(Clone, Copy)]
 pub struct Stepped {
     pub number: u8,
     pub steps: usize,

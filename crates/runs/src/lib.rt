@@ -3,6 +3,7 @@
 //
 // Each command is given, in order, to the call that decides one and makes it; a refused one doesn't end the run. A command's answer, in one
 // number, goes into its place of the row. Where the row is shorter than the run no command is tried.
+#![tactic(auto)]
 ghost use Rattle.std.specs.Prelude.{◌≡◌, replicate};
 ghost use Rattle.runs.specs.Runs.{RunAnswer, EveningAnswer};
 
@@ -32,7 +33,7 @@ pub fn run(board: &mut Board, commands: &[Command], answers: &mut [u64]) -> u8
 }
 
 // What a run by value leaves: its number, an answer in each command's place and 0 in the others, and the last board.
-#[derive(Drop)]
+#[derive(Clone, Copy)]
 pub struct Evening {
     pub number: u8,
     pub answers: [u64; Evening::COMMANDS],

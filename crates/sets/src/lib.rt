@@ -2,12 +2,14 @@
 // nothing else.
 // Every function takes any number for a role: one above 63 is in no set, and adding or removing it changes nothing.
 // What a function gives is said member by member, for every number x; two sets with the same members are equal (`same_members`).
+#![tactic(auto)]
+
 ghost use Rattle.std.specs.Prelude.{◌≡◌, true, false, not, ◌&&◌, ◌||◌, ◌↔◌, ℕ};
 ghost use Rattle.std.specs.Int.Count.{ones};
 ghost use Rattle.sets.specs.Sets.{bit, same?, ◌are_in◌, Lowest, ButLowest, Highest};
 
 // One role of several, or nobody: a caller has to meet both.
-#[derive(Drop)]
+#[derive(Clone, Copy)]
 pub enum Pick {
     Role(usize),
     Nobody,

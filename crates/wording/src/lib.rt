@@ -7,6 +7,7 @@
 //     ACTOR give-rights ROLE RIGHTS                and take-rights; RIGHTS is all, or names of commands: add-role,add-edge
 //
 // SET is roles, as 1,2,5. Words stand apart by blanks. `specs/Meanings.antt` says what a line means.
+#![tactic(auto)]
 ghost use Rattle.std.specs.Prelude.{◌≡◌, cond};
 ghost use Rattle.wording.specs.Meanings.{asked, no_sets, set_at, with_set, sets_from, edge_from, rights_from, by_code, ends_at, meaning_of};
 
@@ -18,7 +19,7 @@ mod names;
 pub mod pieces;
 
 // What a line means: a command, or that the word at this place is wrong, which is past the last word where one is missing.
-#[derive(Drop)]
+#[derive(Clone, Copy)]
 pub enum Meaning {
     Means(Command),
     Wrong(usize, Wanted),
@@ -26,7 +27,7 @@ pub enum Meaning {
 
 // What is wanted in the wrong word's place: a role, the name of a command, a kind, roles, rights, the name of a set that has not been
 // named yet, or nothing more.
-#[derive(Drop)]
+#[derive(Clone, Copy)]
 pub enum Wanted {
     Role,
     Name,
@@ -38,7 +39,7 @@ pub enum Wanted {
 }
 
 // The four sets of a new role.
-#[derive(Drop)]
+#[derive(Clone, Copy)]
 struct Sets {
     a_seniors: u64,
     i_seniors: u64,

@@ -5,6 +5,7 @@
 // role bytes begin, each in two bytes, the low one first, and HH. That is the file of a board where role 0 holds all rights and nobody
 // else any. Every other board has a rights byte for each live role, ascending, before the trailer, and the trailer has eight bytes: how far
 // before it the rights bytes begin comes first, and it ends in HR.
+#![tactic(auto)]
 mod parts;
 pub mod records;
 
@@ -20,7 +21,7 @@ use board::checks::sound_of;
 use parts::{put_file, tail_len};
 use sets::{size, union};
 
-#[derive(Drop)]
+#[derive(Clone, Copy)]
 pub struct Written {
     pub number: u8,
     pub len: usize,
