@@ -3,13 +3,13 @@ use native.Mathlib.Omega.{arith}
 use Rattle.frames.proofs.distance.Goals as goal
 
 pub overflow_cast-low : goal.overflow_cast-low
-overflow_cast-low c = omega (arith, c.shared_slice_known-1.given c.args.at)
+overflow_cast-low c = omega (arith, c.type_inv.file c.args.at)
 
 pub overflow_cast-high : goal.overflow_cast-high
-overflow_cast-high c = omega (arith, c.shared_slice_known-2-1.given (c.args.at + 1))
+overflow_cast-high c = omega (arith, c.type_inv.file (c.args.at + 1))
 
 pub overflow_mul-result : goal.overflow_mul-result
-overflow_mul-result c = omega (arith, c.shared_slice_known-2-1.given (c.args.at + 1))
+overflow_mul-result c = omega (arith, c.type_inv.file (c.args.at + 1))
 
 pub overflow_add-result : goal.overflow_add-result
-overflow_add-result c = omega (arith, c.shared_slice_known-2-1.given c.args.at, c.shared_slice_known-2-1.given (c.args.at + 1))
+overflow_add-result c = omega (arith, c.type_inv.file c.args.at, c.type_inv.file (c.args.at + 1))

@@ -9,7 +9,7 @@ use Rattle.frames.proofs.Frames.{framed}
 use Rattle.frames.proofs.rights_frame.Goals as goal
 
 pub returns-then-n-lt-RIGHTS_TRAILER : goal.returns-then-n-lt-RIGHTS_TRAILER
-returns-then-n-lt-RIGHTS_TRAILER c = hr c.requires (⊎_elim (λ w. short w.taken) (λ w. long (ltb-true _ _ w.1.taken)) c.then-n-lt-RIGHTS_TRAILER.branch)
+returns-then-n-lt-RIGHTS_TRAILER c = hr c.requires (⊎_elim (λ w. short w) (λ w. long w.1) c.then-n-lt-RIGHTS_TRAILER.either)
 
 pub returns-then-distance-body : goal.returns-then-distance-body
 returns-then-distance-body c = hr c.requires (not_all (λ e. c.if-distance-body.true (c.distance.ensures ∙ e)))
@@ -17,7 +17,7 @@ returns-then-distance-body c = hr c.requires (not_all (λ e. c.if-distance-body.
 pub returns-then-roles-eq0 : goal.returns-then-roles-eq0
 returns-then-roles-eq0 c =
     hr c.requires
-    (⊎_elim (λ w. no_roles (omega arith)) (λ w. many_roles (omega (arith, ltb-true))) c.then-roles-eq0.branch)
+    (⊎_elim (λ w. no_roles (omega arith)) (λ w. many_roles (omega (arith, ltb-true))) c.then-roles-eq0.either)
 
 pub overflow_mul-roles : goal.overflow_mul-roles
 overflow_mul-roles c = omega (arith, ltb-false)
@@ -40,7 +40,7 @@ returns-then-distance-edges_back c = hr c.requires (wrong_edges (λ e. c.if-dist
 pub returns : goal.returns
 returns c =
     framed (record {
-      fit = λ k. omega (arith, c.shared_slice_known-1.given k);
+      fit = λ k. omega (arith, c.type_inv.file k);
       high = omega (arith, ltb-false);
       long = omega arith;
       mark = c.requires;
