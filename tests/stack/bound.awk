@@ -12,14 +12,15 @@
 # Each function is followed from its entry, instruction by instruction, with the height of the stack: how many bytes lie on it
 # since the entry. What can't be told is refused. It believes the compiler in this: a called function puts %rbx, %rbp and %r12 to
 # %r15 back, nobody writes over a return address, an index of a table is below what was compared with it, a table ends where an entry
-# leads nowhere, or where something else begins whose address the code takes, and below the stack pointer nothing is used but by an operand from %rsp or %rbp, or by an address taken from there
-# that lies below it itself (with an index, or by such an address: the whole red zone; gcc was seen to go below from %rsp in another
-# register too, by up to these 128 bytes, LLVM was not). Signal handlers aren't counted.
+# leads nowhere, or where something else begins whose address the code takes, and below the stack pointer nothing is used but by an
+# operand from %rsp or %rbp, or by an address taken from there that lies below it itself (with an index, or by such an address: the
+# whole red zone; gcc was seen to go below from %rsp in another register too, by up to these 128 bytes, LLVM was not). Signal handlers
+# aren't counted.
 
 BEGIN {
-    # Functions that have no body here, and what they take below their return address. Painted on x86-64 with glibc 2.36 and
-    # 2.39, memcpy, memmove and memset took none, nor with the newer instructions of the processor masked; the system calls up to 104
-    # (open), what allocates up to 456, __sysv_signal 664, strerror_r up to 2,224.
+    # Functions that have no body here, and what they take below their return address. Painted on x86-64 with glibc 2.36 and 2.39,
+    # memcpy, memmove and memset took none, nor with the newer instructions of the processor masked; the system calls up to 104 (open),
+    # what allocates up to 456, __sysv_signal 664, strerror_r up to 2,224.
     allow("library program", 64, "memcpy memset")
     allow("program", 1024, "close fchmod fchown fdatasync flock fstat fsync ftruncate lseek memmove nanosleep open read readlink rename statx unlink write")
     allow("program", 1024, "malloc realloc free __errno_location __sysv_signal __write __x86_get_cpuid_feature_leaf")
