@@ -423,8 +423,8 @@ function is_stepping(i) {
 #   mov %rsp,%end ; sub $N,%end ; cmp %rsp,%end ; jge DONE ; AGAIN: xorq $0x0,(%rsp) ; sub $STEP,%rsp ; cmp %rsp,%end ; jl AGAIN ;
 #   DONE: mov %end,%rsp
 # The last step may go past the end. Whatever leads in between comes to the last of these alone, which can't be followed.
-function make_room(f, i, end,    o, bytes, by) {
-    if (end != "%" register[end] || end ~ /^%(rsp|rbp|r11)$/) return
+function make_room(f, i, end,    bytes, by) {
+    if (!(end in register) || end != "%" register[end] || end ~ /^%(rsp|rbp|r11)$/) return
     if (said[i + 2] != "cmp %rsp," end || said[i + 6] != said[i + 2] || said[i + 8] != "mov " end ",%rsp") return
     if (op[i + 3] != "jge" || op[i + 7] != "jl" || said[i + 4] !~ /^(mov|x?or)q \$0x0,\(%rsp\)$/) return
     if (!(bytes = taken_off(i + 1, end)) || !(by = taken_off(i + 5, "%rsp"))) return
