@@ -1,6 +1,6 @@
 /* The role board for programs in C.
  *
- * Link libhost.a, which `rt staticlib host` makes for x86-64 Linux. Each call checks all it is handed and decides by
+ * Link libhost.a, which `rt lib` makes in crates/host/out for x86-64 Linux. Each call checks all it is handed and decides by
  * itself, so nothing has to be tested before. It keeps nothing between calls, takes no memory from the heap and little
  * stack (docs/PERFORMANCE.md has the most that each call takes), and calls from several threads are fine on different
  * boards and buffers.

@@ -258,7 +258,7 @@ by_several() {
 
 if [ "$(id -u)" -ne 0 ] || ! command -v setpriv >/dev/null; then
     echo "tests: several users in one folder: skipped, since this takes root, and setpriv, of util-linux"
-elif ! { chmod 755 . && chmod 1777 tmp && $first sh -c 'cd "$1" && [ -x "$0/target/bin/boardchange" ] && "$0/start" boardchange' "$top" "$work"; } >/dev/null 2>&1; then
+elif ! { chmod 755 . && chmod 1777 tmp && $first sh -c 'cd "$1" && [ -x "$0/crates/boardchange/out/boardchange" ] && "$0/start" boardchange' "$top" "$work"; } >/dev/null 2>&1; then
     echo "tests: several users in one folder: skipped, since another user can't run $top/start in $work"
 else
     by_several

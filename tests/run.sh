@@ -9,11 +9,11 @@
 #   tests/run.sh mutations           the broken models of mutations.txt: the comparison must notice each
 #   tests/run.sh bench               what a call costs in time
 #   tests/run.sh stack               and in stack: at most, by the machine code, and painted; held to docs/PERFORMANCE.md
-#   tests/run.sh instructions        and in instructions, where the emulator runs it: it counts them one by one
+#   tests/run.sh instructions        and in instructions, as the emulator runs it: it counts them one by one
 #   tests/run.sh boards              makes the files of boards/ anew by the library's writer
 #   tests/run.sh tools               only see to the compiler and the emulator
 #
-# LIBHOST=FILE   the library (default target/staticlib/libhost.a)
+# LIBHOST=FILE   the library (default crates/host/out/libhost.a)
 # SUBJECT=plain  the plain C in the library's place, compiled for this machine
 # SUBJECT=cross  the same, compiled and run as the library is
 # SEED=N         of the comparison (default 1)
@@ -25,7 +25,7 @@ set -eu
 here=$(cd "$(dirname "$0")" && pwd -P)
 root=$(dirname "$here")
 build=${BUILD:-$root/target/tests}
-library=${LIBHOST:-$root/target/staticlib/libhost.a}
+library=${LIBHOST:-$root/crates/host/out/libhost.a}
 subject=${SUBJECT:-library}
 seed=${SEED:-1}
 machine=$(uname -m)
@@ -48,10 +48,8 @@ need() { # COMMAND PACKAGE...
 }
 
 find_emulator() {
-    rt=$(command -v rt) || die "rt is not on the path, so the kit's emulator can't be found"
-    kit=${RATTLE_HOME:-$(dirname "$(dirname "$(readlink -f "$rt")")")}
-    emulator=$kit/on/$machine/toolchain/bin/qemu-x86_64
-    [ -x "$emulator" ] || die "the kit has no emulator at $emulator"
+    need qemu-x86_64 qemu-user
+    emulator=$(command -v qemu-x86_64)
     for word in $(env | sed -n 's/^\(QEMU_[A-Za-z0-9_]*\)=.*/\1/p'); do unset "$word"; done
 }
 
@@ -83,7 +81,7 @@ compile() { # WORDS...
 
 program() { # OUT WORDS...
     [ "$subject" != library ] || [ -f "$library" ] ||
-        die "there is no library at $library: make it with 'rt staticlib host', or name it with LIBHOST"
+        die "there is no library at $library: make it with 'rt lib' in crates/host, or name it with LIBHOST"
     out=$1
     shift
     compile $static -o "$out" "$@" ${library_words:+"$library_words"}
@@ -118,7 +116,7 @@ seeds() { # N
 
 # ---- instructions: of some calls less those of fewer, so that starting the program doesn't count
 
-executed() { "$emulator" -one-insn-per-tb -d exec,nochain -D /dev/stdout "$build/once" "$@" 2>"$build/said" | grep -c '^Trace'; }
+executed() { "$emulator" "$singly" -d exec,nochain -D /dev/stdout "$build/once" "$@" 2>"$build/said" | grep -c '^Trace'; }
 
 counted() { # BOARD DEED TIMES FEWER_TIMES
     mine=$(executed "$1" "$2" 0 "$3") other=$(executed "$1" "$2" 1 "$3")
@@ -251,7 +249,9 @@ stack)
     ;;
 instructions)
     tools
-    [ -n "$emulator" ] || die "instructions are counted by the kit's emulator, which this machine doesn't need"
+    [ -n "$emulator" ] || find_emulator
+    singly=-one-insn-per-tb
+    "$emulator" -help | grep -q -e "$singly" || singly=-singlestep # the flag's older name
     program "$build/once" -O3 "$here/bench/once.c" "$here/bench/boards.c" "$here/plain/plain.c"
     run "$build/once" >"$build/list"
     while read -r board what; do

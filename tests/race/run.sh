@@ -7,8 +7,8 @@
 #   tests/race/run.sh broken      the protocol broken on purpose (broken/*.patch): the tests must notice each
 #   tests/race/run.sh times       how many changes a second one file takes
 #
-# PROGRAM=FILE   the program (default target/bin/boardchange)
-# CHANGE=FILE    the script (default ./change), which starts target/bin/boardchange
+# PROGRAM=FILE   the program (default crates/boardchange/out/boardchange)
+# CHANGE=FILE    the script (default ./change), which starts that program
 # SEED=N         of what is drawn (default 1)
 # BUILD=DIR      for what is built, and for the boards that are changed (default target/tests/race)
 set -eu
@@ -17,7 +17,8 @@ here=$(cd "$(dirname "$0")" && pwd -P)
 tests=$(dirname "$here")
 root=$(dirname "$tests")
 build=${BUILD:-$root/target/tests/race}
-program=${PROGRAM:-$root/target/bin/boardchange}
+built=crates/boardchange/out/boardchange
+program=${PROGRAM:-$root/$built}
 change=${CHANGE:-$root/change}
 seed=${SEED:-1}
 machine=$(uname -m)
@@ -33,10 +34,10 @@ tools() {
     BUILD=$root/target/tests SUBJECT=plain "$tests/run.sh" tools >/dev/null # sees to gcc
     rt=$(command -v rt) || die "rt is not on the path, so the kit's C library can't be found"
     kit=${RATTLE_HOME:-$(dirname "$(dirname "$(readlink -f "$rt")")")}
-    loader=$kit/on/$machine/toolchain/lib/ld-linux-x86-64.so.2
-    emulator=$kit/on/$machine/toolchain/bin/qemu-x86_64
-    where="$machine, $(nproc) cores"
-    if [ -x "$emulator" ]; then where="x86-64 emulated on $where"; else emulator=''; fi
+    loader=$kit/toolchain/lib/ld-linux-x86-64.so.2
+    emulator='' where="$machine, $(nproc) cores"
+    [ "$machine" = x86_64 ] || emulator=$(command -v qemu-x86_64) || die "qemu-x86_64 is missing"
+    [ -z "$emulator" ] || where="x86-64 emulated on $where"
     gcc -std=gnu11 -O2 -Wall -Wextra -I "$root/host" -I "$tests" -o "$build/race" \
         "$here"/*.c "$tests"/model/*.c "$tests/compare/chance.c"
 }
@@ -45,9 +46,9 @@ tools() {
 
 # What a killed ./change leaves in the folder for temporary files stays below ours.
 race() { # TEST ROUNDS
-    [ -x "$program" ] || die "there is no program at $program: make it with 'rt check boardchange'"
+    [ -x "$program" ] || die "there is no program at $program: make it with './start --build boardchange'"
     script=''
-    [ ! -x "$change" ] || [ "$program" != "$root/target/bin/boardchange" ] || script=$change
+    [ ! -x "$change" ] || [ "$program" != "$root/$built" ] || script=$change
     rm -rf "$build/tmp" "$build/work"
     mkdir -p "$build/tmp" "$build/work" "$build/logs"
     TMPDIR=$build/tmp "$build/race" "$1" -s "$seed" -n "$2" -w "$build/work" -l "$build/logs" ${script:+-c "$script"} -- \
@@ -78,21 +79,22 @@ fit() {
     done
 }
 
-# A copy of the repository with what is proved already, so that only the one crate is built anew.
+# A copy of the repository with the libraries that are built already, so that only the one crate is built anew. It stands elsewhere, since
+# rt ci refuses a repository with crates of another in it.
 copy_repository() {
-    copy=$build/broken
-    rm -rf "$copy"
-    mkdir -p "$copy/target"
-    (cd "$root" && cp -a crates crates.txt "$copy")
-    for part in bin log obj rlib stamp; do [ ! -d "$root/target/$part" ] || cp -a "$root/target/$part" "$copy/target"; done
+    copy=$(mktemp -d)
+    trap 'rm -rf "$copy"' EXIT
+    (cd "$root" && tar -cf - --exclude='crates/*/out/incremental' crates crates.txt) | tar -xf - -C "$copy"
 }
 
 break_it() { # PATCH
     rm -rf "$copy/crates/boardchange"
     cp -a "$root/crates/boardchange" "$copy/crates"
+    program=$copy/$built
+    rm -f "$program"
     (cd "$copy" && patch -p1 -s <"$1")
-    (cd "$copy" && rt check boardchange) >"$build/broken.log" 2>&1 || die "${1##*/}: the broken program can't be built; $build/broken.log says why"
-    program=$copy/target/bin/boardchange
+    (cd "$copy/crates/boardchange" && rt run) >"$build/broken.log" 2>&1 </dev/null || : # it runs too, without words
+    [ -x "$program" ] || die "${1##*/}: the broken program can't be built; $build/broken.log says why"
 }
 
 # Where one round doesn't notice it others may: that is chance. How many disagreements each test has.
@@ -115,7 +117,6 @@ broken() {
         break_it "$patch"
         notice "$patch"
     done
-    rm -rf "$copy"
     [ "$missed" -eq 0 ] || { say "something broken was not noticed"; exit 1; }
     say "each was noticed"
 }

@@ -12,16 +12,18 @@
 # Each function is followed from its entry, instruction by instruction, with the height of the stack: how many bytes lie on it
 # since the entry. What can't be told is refused. It believes the compiler in this: a called function puts %rbx, %rbp and %r12 to
 # %r15 back, nobody writes over a return address, an index of a table is below what was compared with it, a table ends where an entry
-# leads nowhere, and below the stack pointer nothing is used but by an operand from %rsp or %rbp, or by an address taken from there
-# that lies below it itself (with an index, or by such an address: the whole red zone; gcc was seen to go below from %rsp in another
-# register too, by up to these 128 bytes, LLVM was not). Signal handlers aren't counted.
+# leads nowhere, or where something else begins whose address the code takes, and below the stack pointer nothing is used but by an
+# operand from %rsp or %rbp, or by an address taken from there that lies below it itself (with an index, or by such an address: the
+# whole red zone; gcc was seen to go below from %rsp in another register too, by up to these 128 bytes, LLVM was not). Signal handlers
+# aren't counted.
 
 BEGIN {
-    # Functions that have no body here, and what they take below their return address. Painted on x86-64 with glibc 2.36 and
-    # 2.39, memcpy and memset took none, nor with the newer instructions of the processor masked; the system calls up to 104
-    # (open), strerror_r up to 2,224.
+    # Functions that have no body here, and what they take below their return address. Painted on x86-64 with glibc 2.36 and 2.39,
+    # memcpy, memmove and memset took none, nor with the newer instructions of the processor masked; the system calls up to 104 (open),
+    # what allocates up to 456, __sysv_signal 664, strerror_r up to 2,224.
     allow("library program", 64, "memcpy memset")
-    allow("program", 1024, "close fchmod fchown fstat fsync nanosleep open read readlink rename unlink write __errno_location")
+    allow("program", 1024, "close fchmod fchown fdatasync flock fstat fsync ftruncate lseek memmove nanosleep open read readlink rename statx unlink write")
+    allow("program", 1024, "malloc realloc free __errno_location __sysv_signal __write __x86_get_cpuid_feature_leaf")
     allow("program", 4096, "__xpg_strerror_r")
 
     RED_ZONE = 128 # that much below the stack pointer a function may use by the x86-64 convention
@@ -336,6 +338,7 @@ function work(f, i,    o, m) {
     if (op[i] !~ /^[a-z][a-z0-9]*$/ || op[i] ~ NOT_FOLLOWED) return refuse(f, "can't follow '" said[i] "'")
     m = operands(i, o)
     look_below(f, i, o, m)
+    if (op[i] == "mov" && o[1] == "%rsp") make_room(f, i, o[2])
     if (op[i] ~ /^(push|pop)$/ && o[1] in register && o[1] != "%" register[o[1]]) refuse(f, "can't follow '" said[i] "'")
     else if (op[i] == "push") sink(f, H += 8)
     else if (op[i] == "pop" && !is(o[1], "rsp")) sink(f, H -= 8)
@@ -416,6 +419,31 @@ function is_stepping(i) {
     return target == i
 }
 
+# Room of a length that is known, taken step by step towards an end in another register:
+#   mov %rsp,%end ; sub $N,%end ; cmp %rsp,%end ; jge DONE ; AGAIN: xorq $0x0,(%rsp) ; sub $STEP,%rsp ; cmp %rsp,%end ; jl AGAIN ;
+#   DONE: mov %end,%rsp
+# The last step may go past the end. Whatever leads in between comes to the last of these alone, which can't be followed.
+function make_room(f, i, end,    bytes, by) {
+    if (!(end in register) || end != "%" register[end] || end ~ /^%(rsp|rbp|r11)$/) return
+    if (said[i + 2] != "cmp %rsp," end || said[i + 6] != said[i + 2] || said[i + 8] != "mov " end ",%rsp") return
+    if (op[i + 3] != "jge" || op[i + 7] != "jl" || said[i + 4] !~ /^(mov|x?or)q \$0x0,\(%rsp\)$/) return
+    if (!(bytes = taken_off(i + 1, end)) || !(by = taken_off(i + 5, "%rsp"))) return
+    resolve(i + 3)
+    if (target != i + 8) return
+    resolve(i + 7)
+    if (target != i + 4) return
+    sink(f, H + int((bytes + by - 1) / by) * by)
+    H += bytes
+    for (NEXT = i + 1; NEXT < i + 9; NEXT++) passed[NEXT] = 1
+}
+
+# How much `sub` takes off that register; 0 where that isn't what the instruction does.
+function taken_off(i, operand,    o) {
+    operands(i, o)
+    if (op[i] != "sub" || !immediate(o[1]) || o[2] != operand || o[3] != "") return 0
+    return hex(substr(o[1], 2)) > 0 ? hex(substr(o[1], 2)) : 0
+}
+
 # Whether the register still holds a copy of the stack pointer.
 function copy(i, o, wide,    d) {
     if (!may_write(i, wide) && !(op[i] == "leave" && wide == "rbp")) return
@@ -454,6 +482,7 @@ function jump_by_table(f, i,    k) {
     length_then[i] = table_length
     if (table_length < 0) unsaid[f] = 1
     for (k = 0; table_length < 0 || k < table_length; k++) {
+        if (table_length < 0 && k > 0 && begins(table_start + 4 * k)) break
         target = 0
         if (kind == "program") read_entry(k)
         else if ((table_section, table_start + 4 * k) in entry) place(entry[table_section, table_start + 4 * k], -4 * k)
@@ -497,6 +526,7 @@ function find_table(f, i,    o, to, base, sum, load, k) {
 
 function table_at(address) {
     if (address == "") return 0
+    table_section = ""
     if (kind == "program") table_start = address + 0
     else {
         place(address, 4)
@@ -520,19 +550,54 @@ function setter(f, i, wide,    k) {
     return 0
 }
 
-# By the check before it: cmp $N,%index ; ja, or jae.
+# By the check before it: cmp $N,%index ; ja, or jae. The index may be a copy of what was compared, made before that or behind it.
 function length_of(f, load, index_register,    k, o) {
     for (k = load - 1; k > first[f] && is_plain(k) && !is_target[k + 1]; k--) {
         if (op[k] != "ja" && op[k] != "jae") {
             operands(k, o)
-            if (may_write(k, index_register) && !(op[k] ~ /^movz/ && is(o[1], index_register) && o[1] !~ /h$/)) return -1
+            if (!may_write(k, index_register) || op[k] ~ /^movz/ && is(o[1], index_register) && o[1] !~ /h$/) continue
+            if (!copies(k, o)) return -1
+            index_register = register[o[1]]
             continue
         }
         operands(k - 1, o)
-        if (is_target[k] || op[k - 1] !~ /^cmp[bwlq]?$/ || !immediate(o[1]) || !is(o[2], index_register)) return -1
+        if (is_target[k] || op[k - 1] !~ /^cmp[bwlq]?$/ || !immediate(o[1]) || !(o[2] in register)) return -1
+        if (!is(o[2], index_register) && !is_copy(f, k - 1, index_register, register[o[2]])) return -1
         return hex(substr(o[1], 2)) + (op[k] == "ja")
     }
     return -1
+}
+
+# Whether the instruction copies one register to another, all of it or its lower half, the rest of which becomes 0.
+function copies(i, o) {
+    return op[i] == "mov" && o[1] in register && o[2] in register && (o[2] == "%" register[o[2]] || o[2] ~ /^%(e|r[0-9]+d)/)
+}
+
+# Whether one register was copied from the other before the instruction i, and neither was written since, if nothing leads in between.
+function is_copy(f, i, wide, other,    k, o) {
+    for (k = i - 1; k >= first[f] && is_plain(k) && !is_target[k + 1]; k--) {
+        operands(k, o)
+        if (copies(k, o) && is(o[1], other) && is(o[2], wide)) return 1
+        if (may_write(k, wide) || may_write(k, other)) return 0
+    }
+    return 0
+}
+
+# Where something begins whose address the code takes.
+function mark_beginnings(    i) {
+    for (i = 1; i <= instructions; i++) {
+        if (i in points_at) begun["", points_at[i]]
+        if (kind == "program" || op[i] != "lea" || !(i in relocation)) continue
+        place(relocation[i], 4)
+        begun[place_section, place_offset]
+    }
+}
+
+# Whether such a place is among the four bytes of an entry.
+function begins(from,    k) {
+    for (k = from; k < from + 4; k++)
+        if ((table_section, k) in begun) return 1
+    return 0
 }
 
 function mark_targets(    i) {
@@ -598,6 +663,7 @@ function report(root,    f, reason) {
 
 END {
     mark_targets()
+    mark_beginnings()
     count = split(roots, root, " ")
     for (k = 1; k <= count; k++) print report(root[k])
     if (unknown != "") print "undefined refused" unknown " has no body here and no allowance"

@@ -136,6 +136,34 @@ table_out:
         jmp     *%rax
 .Lout0: ret
 
+# That many the copy's check lets through, and no more stand there.
+#= short_table_by_copy refused in short_table_by_copy: jumps by a table whose entry 1 leads nowhere
+short_table_by_copy:
+        mov     %edi, %edx
+        cmp     $0x1, %edi
+        ja      .Lshort_by_copy
+        lea     .Lshort_by_copy_table(%rip), %rcx
+        movslq  (%rcx,%rdx,4), %rax
+        add     %rcx, %rax
+        jmp     *%rax
+.Lshort_by_copy:
+        ret
+
+# An address within the table ends the reading before all is seen.
+#= table_cut_in_two refused in table_cut_in_two: jumps by a table of no known length, and doesn't come to 'push %rbx'
+table_cut_in_two:
+        lea     .Lin_two_table(%rip), %rcx
+        movslq  (%rcx,%rdi,4), %rax
+        add     %rcx, %rax
+        lea     .Lsecond_half(%rip), %rdx
+        jmp     *%rax
+.Lin_two0:
+        ret
+.Lin_two1:
+        push    %rbx
+        pop     %rbx
+        ret
+
 # The second table leads past the check of the first.
 #= past_by_table refused in past_by_table: jumps by 'jmp *%rax', which isn't seen to be a table
 past_by_table:
@@ -293,6 +321,77 @@ end_lost:
         ret
 leaf:   ret
 
+# Room that is taken towards an end in another register, of a length that isn't known; towards an end that isn't the copy; in a loop that
+# isn't the one; and entered in the middle.
+#= room_by_length refused in room_by_length: can't follow 'mov %rsi,%rsp', which sets the stack pointer
+room_by_length:
+        push    %rbp
+        mov     %rsp, %rbp
+        mov     %rsp, %rsi
+        sub     %rdi, %rsi
+        cmp     %rsp, %rsi
+        jge     .Lby_length
+        ud2
+.Lby_length:
+        mov     %rsi, %rsp
+        leave
+        ret
+
+#= room_to_elsewhere refused in room_to_elsewhere: comes to 'xorq $0x0,(%rsp)' at two heights, 8 and 3080
+room_to_elsewhere:
+        push    %rbp
+        mov     %rsp, %rbp
+        mov     %rsp, %rsi
+        sub     $0x90, %rdi
+        cmp     %rsp, %rsi
+        jge     .Lelsewhere
+.Lto_elsewhere:
+        xorq    $0x0, (%rsp)
+        sub     $0xc00, %rsp
+        cmp     %rsp, %rsi
+        jl      .Lto_elsewhere
+.Lelsewhere:
+        mov     %rsi, %rsp
+        leave
+        ret
+
+#= room_without_end refused in room_without_end: comes to 'xorq $0x0,(%rsp)' at two heights, 8 and 3080
+room_without_end:
+        push    %rbp
+        mov     %rsp, %rbp
+        mov     %rsp, %rsi
+        sub     $0x90, %rsi
+        cmp     %rsp, %rsi
+        jge     .Lwithout_end
+.Lno_end:
+        xorq    $0x0, (%rsp)
+        sub     $0xc00, %rsp
+        cmp     %rsp, %rdi
+        jl      .Lno_end
+.Lwithout_end:
+        mov     %rsi, %rsp
+        leave
+        ret
+
+#= room_elsewhere refused in room_elsewhere: can't follow 'mov %rsi,%rsp', which sets the stack pointer
+room_elsewhere:
+        push    %rbp
+        mov     %rsp, %rbp
+        test    %rdx, %rdx
+        je      .Lroom_elsewhere
+        mov     %rsp, %rsi
+        sub     $0x90, %rsi
+        cmp     %rsp, %rsi
+        jge     .Lroom_elsewhere
+.Lmore: xorq    $0x0, (%rsp)
+        sub     $0xc00, %rsp
+        cmp     %rsp, %rsi
+        jl      .Lmore
+.Lroom_elsewhere:
+        mov     %rsi, %rsp
+        leave
+        ret
+
 #= rounded_for_good refused in rounded_for_good: returns while the stack is rounded to a multiple
 rounded_for_good:
         and     $-0x10, %rsp
@@ -384,6 +483,12 @@ traps:  int3
         .balign 4
 .Lshort_table:
         .long   .Lshort - .Lshort_table
+.Lshort_by_copy_table:
+        .long   .Lshort_by_copy - .Lshort_by_copy_table
+.Lin_two_table:
+        .long   .Lin_two0 - .Lin_two_table
+.Lsecond_half:
+        .long   .Lin_two1 - .Lin_two_table
 .Lcut_table:
         .long   .Lcut0 - .Lcut_table, 0, .Lcut2 - .Lcut_table
 .Lout_table:

@@ -201,6 +201,144 @@ whole_table:
         pop     %rbx
         ret
 
+# Nor here, but the table ends where the next begins, whose entries, counted from the first, would lead out.
+#= next_table 24 next_table 24
+next_table:
+        lea     .Lnext_table(%rip), %rsi
+        movslq  (%rsi,%rdi,4), %r8
+        add     %rsi, %r8
+        jmp     *%r8
+.Lnext0:
+        lea     .Lsecond_table(%rip), %rcx
+        movslq  (%rcx,%rdi,4), %rax
+        add     %rcx, %rax
+        jmp     *%rax
+.Lnext1:
+        push    %rbx
+        pop     %rbx
+        ret
+.Lsecond0:
+        push    %rbx
+        push    %rbx
+        pop     %rbx
+        pop     %rbx
+        ret
+
+# What is looked up is a copy of what was checked, made before that or behind it, and its lower half at that. The entry behind would lead
+# out.
+#= copied_before 64 copied_before 8 > pushes 56
+copied_before:
+        mov     %edi, %r8d
+        cmp     $0x1, %edi
+        ja      .Lcopied_before0
+        lea     .Lcopied_before_table(%rip), %rcx
+        movslq  (%rcx,%r8,4), %rax
+        add     %rcx, %rax
+        jmp     *%rax
+.Lcopied_before0:
+        ret
+.Lcopied_before1:
+        call    pushes
+        ret
+
+#= copied_behind 64 copied_behind 8 > pushes 56
+copied_behind:
+        cmp     $0x1, %edi
+        ja      .Lcopied_behind0
+        mov     %rdi, %rax
+        mov     %eax, %eax
+        lea     .Lcopied_behind_table(%rip), %rcx
+        movslq  (%rcx,%rax,4), %rax
+        add     %rcx, %rax
+        jmp     *%rax
+.Lcopied_behind0:
+        ret
+.Lcopied_behind1:
+        call    pushes
+        ret
+
+# A copy that was changed, a copy of something else, and what was copied only on one way: the check says nothing.
+#= changed_copy 64 changed_copy 8 > pushes 56
+changed_copy:
+        mov     %edi, %r8d
+        inc     %r8d
+        cmp     $0x0, %edi
+        ja      .Lchanged0
+        lea     .Lchanged_table(%rip), %rcx
+        movslq  (%rcx,%r8,4), %rax
+        add     %rcx, %rax
+        jmp     *%rax
+.Lchanged0:
+        ret
+.Lchanged1:
+        call    pushes
+        ret
+
+#= changed_behind 64 changed_behind 8 > pushes 56
+changed_behind:
+        cmp     $0x0, %edi
+        ja      .Lchanged_behind0
+        inc     %edi
+        mov     %edi, %eax
+        lea     .Lchanged_behind_table(%rip), %rcx
+        movslq  (%rcx,%rax,4), %rax
+        add     %rcx, %rax
+        jmp     *%rax
+.Lchanged_behind0:
+        ret
+.Lchanged_behind1:
+        call    pushes
+        ret
+
+#= another_copy 64 another_copy 8 > pushes 56
+another_copy:
+        mov     %esi, %r8d
+        cmp     $0x0, %edi
+        ja      .Lanother0
+        lea     .Lanother_table(%rip), %rcx
+        movslq  (%rcx,%r8,4), %rax
+        add     %rcx, %rax
+        jmp     *%rax
+.Lanother0:
+        ret
+.Lanother1:
+        call    pushes
+        ret
+
+#= past_the_copy 64 past_the_copy 8 > pushes 56
+past_the_copy:
+        test    %rsi, %rsi
+        je      .Lpast_copy
+        mov     %edi, %r8d
+.Lpast_copy:
+        cmp     $0x0, %edi
+        ja      .Lpast_copy0
+        lea     .Lpast_copy_table(%rip), %rcx
+        movslq  (%rcx,%r8,4), %rax
+        add     %rcx, %rax
+        jmp     *%rax
+.Lpast_copy0:
+        ret
+.Lpast_copy1:
+        call    pushes
+        ret
+
+# The lowest byte alone: the rest is what it was.
+#= a_part_copied 64 a_part_copied 8 > pushes 56
+a_part_copied:
+        cmp     $0x0, %edi
+        ja      .Lpart0
+        mov     %dil, %al
+        lea     .Lpart_table(%rip), %rcx
+        movslq  (%rcx,%rax,4), %rax
+        add     %rcx, %rax
+        jmp     *%rax
+.Lpart0:
+        ret
+.Lpart1:
+        call    pushes
+        ret
+
 # The table's address is taken before the loop that jumps by it, and outlives a call.
 #= hoisted_table 80 hoisted_table 24 > pushes 56
 hoisted_table:
@@ -251,6 +389,49 @@ rounded:
         lea     -0x10(%rbp), %rsp
         pop     %r12
         pop     %rbx
+        pop     %rbp
+        ret
+
+# Room of a known length, towards an end in another register. The last step goes past it, and what is called begins at the end.
+#= room 3104 room 3104
+room:   push    %rbp
+        mov     %rsp, %rbp
+        push    %rbx
+        push    %rax
+        mov     %rsp, %rsi
+        sub     $0x90, %rsi
+        cmp     %rsp, %rsi
+        jge     .Lroom
+.Lmore: xorq    $0x0, (%rsp)
+        sub     $0xc00, %rsp
+        cmp     %rsp, %rsi
+        jl      .Lmore
+.Lroom: mov     %rsi, %rsp
+        mov     %rdi, (%rsi)
+        call    pushes
+        lea     -0x10(%rbp), %rsp
+        pop     %rax
+        pop     %rbx
+        pop     %rbp
+        ret
+
+#= room_in_steps 8264 room_in_steps 8208 > pushes 56
+room_in_steps:
+        push    %rbp
+        mov     %rsp, %rbp
+        mov     %rsp, %r9
+        sub     $0x2000, %r9
+        cmp     %rsp, %r9
+        jge     .Lin_steps
+.Lsteps:
+        orq     $0x0, (%rsp)
+        sub     $0x1000, %rsp
+        cmp     %rsp, %r9
+        jl      .Lsteps
+.Lin_steps:
+        mov     %r9, %rsp
+        call    pushes
+        mov     %rbp, %rsp
         pop     %rbp
         ret
 
@@ -332,6 +513,24 @@ main:   sub     $0x10, %rsp
         .long   .Lpast0 - .Lpast_table, .Lpast1 - .Lpast_table
 .Lcompared_table:
         .long   .Lcompared0 - .Lcompared_table, .Lcompared1 - .Lcompared_table
+.Lnext_table:
+        .long   .Lnext0 - .Lnext_table, .Lnext1 - .Lnext_table
+.Lsecond_table:
+        .long   .Lsecond0 - .Lsecond_table, 0x7fffffff
+.Lcopied_before_table:
+        .long   .Lcopied_before0 - .Lcopied_before_table, .Lcopied_before1 - .Lcopied_before_table, pushes - .Lcopied_before_table
+.Lcopied_behind_table:
+        .long   .Lcopied_behind0 - .Lcopied_behind_table, .Lcopied_behind1 - .Lcopied_behind_table, pushes - .Lcopied_behind_table
+.Lchanged_table:
+        .long   .Lchanged0 - .Lchanged_table, .Lchanged1 - .Lchanged_table
+.Lchanged_behind_table:
+        .long   .Lchanged_behind0 - .Lchanged_behind_table, .Lchanged_behind1 - .Lchanged_behind_table
+.Lanother_table:
+        .long   .Lanother0 - .Lanother_table, .Lanother1 - .Lanother_table
+.Lpast_copy_table:
+        .long   .Lpast_copy0 - .Lpast_copy_table, .Lpast_copy1 - .Lpast_copy_table
+.Lpart_table:
+        .long   .Lpart0 - .Lpart_table, .Lpart1 - .Lpart_table
 .Lwhole_table:
         .long   .Lwhole0 - .Lwhole_table, .Lwhole1 - .Lwhole_table, .Lwhole2 - .Lwhole_table
         .long   0x7fffffff

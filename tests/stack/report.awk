@@ -62,7 +62,7 @@ END {
     }
     print ""
     for (n in stated)
-        if (!(n in present)) wrong("the document has a figure for " n ", no exported function and no program in target/bin")
+        if (!(n in present)) wrong("the document has a figure for " n ", no exported function and no program that is built")
     if (function_count == 0) wrong("the library exports nothing")
     for (k = 1; k <= wrong_count; k++) print "tests: stack: " wrongs[k] | "cat 1>&2"
     close("cat 1>&2")

@@ -65,7 +65,9 @@ paint() {
 compare_with_figures() {
     functions=$(exported) programs=''
     bounds library "$library" "$functions" >"$build/bounds"
-    for file in "$root"/target/bin/*; do
+    for source in "$root"/crates/*/src/main.rt; do
+        crate=${source%/src/main.rt}
+        file=$crate/out/${crate##*/}
         [ -f "$file" ] || continue
         programs="$programs ${file##*/}"
         program_bounds "$file" >>"$build/bounds"

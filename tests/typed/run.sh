@@ -4,7 +4,7 @@
 #   tests/typed/run.sh sample      some seconds: for the gate
 #   tests/typed/run.sh full        over 800,000 lines, two or three minutes: by hand
 #
-# PROGRAM=FILE   the program (default target/bin/boardchange)
+# PROGRAM=FILE   the program (default crates/boardchange/out/boardchange)
 # SEED=N         of what is drawn (default 1)
 # BUILD=DIR      for what is built, and for the board that is changed (default target/tests/typed)
 set -eu
@@ -13,7 +13,7 @@ here=$(cd "$(dirname "$0")" && pwd -P)
 tests=$(dirname "$here")
 root=$(dirname "$tests")
 build=${BUILD:-$root/target/tests/typed}
-program=${PROGRAM:-$root/target/bin/boardchange}
+program=${PROGRAM:-$root/crates/boardchange/out/boardchange}
 seed=${SEED:-1}
 machine=$(uname -m)
 
@@ -26,16 +26,16 @@ tools() {
     BUILD=$root/target/tests SUBJECT=plain "$tests/run.sh" tools >/dev/null # sees to gcc
     rt=$(command -v rt) || die "rt is not on the path, so the kit's C library can't be found"
     kit=${RATTLE_HOME:-$(dirname "$(dirname "$(readlink -f "$rt")")")}
-    loader=$kit/on/$machine/toolchain/lib/ld-linux-x86-64.so.2
-    emulator=$kit/on/$machine/toolchain/bin/qemu-x86_64
-    where=$machine
-    if [ -x "$emulator" ]; then where="x86-64 emulated on $where"; else emulator=''; fi
+    loader=$kit/toolchain/lib/ld-linux-x86-64.so.2
+    emulator='' where=$machine
+    [ "$machine" = x86_64 ] || emulator=$(command -v qemu-x86_64) || die "qemu-x86_64 is missing"
+    [ -z "$emulator" ] || where="x86-64 emulated on $where"
     gcc -std=gnu11 -O2 -Wall -Wextra -I "$root/host" -I "$tests" -o "$build/typed" \
         "$here"/*.c "$tests"/model/*.c "$tests/compare/chance.c" "$tests/compare/draw.c"
 }
 
 typed() { # TEXTS SINGLE LEAST [-f]
-    [ -x "$program" ] || die "there is no program at $program: make it with 'rt check boardchange'"
+    [ -x "$program" ] || die "there is no program at $program: make it with './start --build boardchange'"
     "$build/typed" -s "$seed" -t "$1" -a "$2" -l "$3" ${4:+"$4"} -w "$build/work" -b "$root/boards" -- \
         ${emulator:+"$emulator"} "$loader" --library-path "${loader%/*}" "$program"
 }
