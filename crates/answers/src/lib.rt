@@ -1,5 +1,6 @@
 // An answer in one number: the refusal number, where it arose, and a value, and above them who offends and why. Knows an answer, and no board.
 #![tactic(auto)]
+
 ghost use Rattle.std.specs.Prelude.{◌≡◌};
 ghost use Rattle.answers.specs.Packing.{answer, reason, answer_of};
 

@@ -1,6 +1,7 @@
 // The records that all else speaks of: a board, a command, its answer; the founding board, whether a board is sound, and what it keeps. Knows
 // the words of `hierarchy` and scopes; decides nothing.
 #![tactic(auto)]
+
 ghost use Rattle.std.specs.Prelude.{◌≡◌};
 ghost use Rattle.board.specs.Boards.{founding_board};
 

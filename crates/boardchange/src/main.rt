@@ -11,6 +11,7 @@
 // disk, and FILE.lock then takes FILE's name. So whoever reads FILE to decide on it is alone until it has decided, and FILE is at any
 // moment a whole board file. Nothing is said before that, so a 'done' stands for a change that is on the disk.
 #![tactic(auto)]
+
 mod disk;
 mod given;
 mod input;

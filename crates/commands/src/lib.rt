@@ -4,6 +4,7 @@
 // `decide` works on the parts of a board, `step` by value, `lent::apply` on a lent board. `decide_trusting` is for a caller that has just
 // found the board sound.
 #![tactic(auto)]
+
 mod afterwards;
 pub mod lent;
 mod rights;

@@ -1,6 +1,7 @@
 // The column "Effect" of the rules' table: what a command does to the tables of a board. Knows the board's records; refuses nothing: a command
 // of any code on any board has the effect of its code, and a role above 63 names nobody. The two tables go the same way.
 #![tactic(auto)]
+
 mod tables;
 
 ghost use Rattle.std.specs.Prelude.{◌≡◌};

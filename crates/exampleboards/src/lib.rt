@@ -1,6 +1,7 @@
 // The boards and the commands of the examples, the same as those of the table of examples (`specs/Table.antt`), and that table's theorem. Knows
 // the board and the rules, and none of their functions but `work_out`.
 #![tactic(auto)]
+
 ghost use Rattle.std.specs.Prelude.{◌≡◌};
 ghost use Rattle.hierarchy.specs.Tables.{tables};
 ghost use Rattle.exampleboards.specs.Boards.{start_rights, Of, P, W, L, E, F, command, add_between, add_role, remove_role, add_edge, remove_edge, change_edge, give_rights, take_rights};

@@ -1,6 +1,7 @@
 // The frame of a board file: its trailer, and how many role bytes and edge records it announces, with rights bytes or without. Knows bytes and
 // the limits of a board; reads no record.
 #![tactic(auto)]
+
 ghost use Rattle.std.specs.Prelude.{◌≡◌, ◌+◌, ◌≤◌, length};
 ghost use Rattle.frames.specs.Frames.{word, EndsHH, EndsHR};
 ghost use Rattle.frames.specs.Frames.{edges_back};

@@ -6,6 +6,7 @@
 // role derives, and up, what derives it; and the line managers. Tables are lent, since a copy of one costs as much as working out a small
 // board.
 #![tactic(auto)]
+
 mod managers;
 pub mod shape;
 mod views;

@@ -3,6 +3,7 @@
 // Knows all of the library; what is decided is decided there, by `commands`, `runs`, `jobs`, `writer` and `boardfile`, and here an answer is
 // packed into one number. Nothing is asked of a caller but that the pointers are good.
 #![tactic(auto)]
+
 mod lists;
 mod values;
 

@@ -8,6 +8,7 @@
 // `roles` has the role of job j, or a number above 63 where there is no such job; `marks` has 0 for an open job and any other number
 // for a held one, and `members` who holds it.
 #![tactic(auto)]
+
 ghost use Rattle.board.specs.Boards.{board_of};
 ghost use Rattle.jobs.specs.Lists.{jobs_of};
 ghost use Rattle.jobs.specs.Answers.{StartAnswer, ClaimAnswer, ReleaseAnswer, LookAnswer};

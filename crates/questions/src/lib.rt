@@ -4,6 +4,7 @@
 // lent part by part. Those with `_trusting` go on with a board that was just found sound: the answer is the one read off what is lent,
 // whatever that holds.
 #![tactic(auto)]
+
 ghost use Rattle.hierarchy.specs.First.{First};
 ghost use Rattle.board.specs.Boards.{board_of};
 ghost use Rattle.questions.specs.Trusting.{DerivesTrusting, ScopeTrusting, ManagerTrusting, StepsTrusting};

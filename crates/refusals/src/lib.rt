@@ -1,6 +1,7 @@
 // The rows of the rules' table on the board handed in: 2, 3, 4, 5, 13, 6, and whom a 6 names. Knows the board's records and scopes; changes
 // nothing. Deriving and scope are read off the sets that it is lent, whatever they hold.
 #![tactic(auto)]
+
 mod rights;
 
 ghost use Rattle.std.specs.Prelude.{◌≡◌, true, false, not, ◌&&◌, ◌||◌, ◌↔◌, ◌≢◌, ℕ, ◌<◌, eqb};

@@ -4,6 +4,7 @@
 // Each command is given, in order, to the call that decides one and makes it; a refused one doesn't end the run. A command's answer, in one
 // number, goes into its place of the row. Where the row is shorter than the run no command is tried.
 #![tactic(auto)]
+
 ghost use Rattle.std.specs.Prelude.{◌≡◌, replicate};
 ghost use Rattle.runs.specs.Runs.{RunAnswer, EveningAnswer};
 

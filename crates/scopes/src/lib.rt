@@ -2,6 +2,7 @@
 //
 // Scopes are read off the views of a board, which are lent: whatever two tables are lent, the answer is the one read off them.
 #![tactic(auto)]
+
 pub mod kinds;
 
 ghost use Rattle.std.specs.Prelude.{◌≡◌, true, ◌↔◌, ℕ, ◌<◌};

@@ -60,6 +60,6 @@ beginnings at ((b ∷ p) ∷ ps) = at ∷ beginnings (at + length (b ∷ p) + 1)
 abbrev pub word_start : List ℕ → ℕ → ℕ
 word_start line k = get_or (beginnings 0 (pieces 32 line)) k 0
 
--- The word is a part of the caller's own line: `part_at` and `line_at_lem` are where the two lie in memory, a block and a place in it.
+-- The word is a part of the caller's own line: `part_at` and `line_at` are where the two lie in memory, a block and a place in it.
 abbrev pub WordOf : List ℕ → ℕ × ℕ → ℕ → List ℕ → ℕ × ℕ → Type 0
-WordOf line line_at_lem k part part_at = (part ≡ word_at line k) × (part_at.0 ≡ line_at_lem.0) × (part_at.1 ≡ line_at_lem.1 + word_start line k)
+WordOf line line_at k part part_at = (part ≡ word_at line k) × (part_at.0 ≡ line_at.0) × (part_at.1 ≡ line_at.1 + word_start line k)

@@ -15,7 +15,7 @@ change_rights-requires c = passed 2 _ _ _ (λ e. omega (arith, e, c.if-first-ne0
 pub returns-then-c-gt5 : goal.returns-then-c-gt5
 returns-then-c-gt5 c =
     let shaped : Shaped (tables_of (board_of c.args.live.now c.args.i.now c.args.a.now c.args.derives.now c.args.derivers.now c.args.manager.now c.args.rights.now)) =
-      let i = c.whole.ensures in let a = c.whole-then-c-gt5.ensures in record { live_fits = c.row_known-1.given.fits; i_rows = i.rows; a_rows = a.rows; i_fits = i.fits; a_fits = a.fits } in
+    let i = c.whole.ensures in let a = c.whole-then-c-gt5.ensures in record { live_fits = omega arith; i_rows = i.rows; a_rows = a.rows; i_fits = i.fits; a_fits = a.fits } in
     decided_rights (board_of c.args.live.now c.args.i.now c.args.a.now c.args.derives.now c.args.derivers.now c.args.manager.now c.args.rights.now) _ _ c.if-first-ne0.false c.refused_on_board-first.ensures.0 c.if-c-gt5.true shaped c.plain.ensures _ c.change_rights.ensures
 
 pub returns-then-late-ne0 : goal.returns-then-late-ne0

@@ -18,8 +18,8 @@ returns-then-distance-body c = hh c.requires.1 (not_all (λ e. c.if-distance-bod
 pub returns-then-body-edges : goal.returns-then-body-edges
 returns-then-body-edges c =
     hh c.requires.1 (elim c.then-body-edges.branch [
-      then-body-edges-via-then-body-edges w ↦ too_far (omega (arith, w.if-body-edges.true))
-    | then-body-edges-via-else-body-edges+then-edges-ne0 w ↦ no_triples (λ e. w.if-edges-ne0.true (ap (λ (n : ℕ). n % 3) c.distance-edges.ensures ∙ e))
+      | then-body-edges-via-then-body-edges w ↦ too_far (omega (arith, w.if-body-edges.true))
+      | then-body-edges-via-else-body-edges+then-edges-ne0 w ↦ no_triples (λ e. w.if-edges-ne0.true (ap (λ (n : ℕ). n % 3) c.distance-edges.ensures ∙ e))
     ])
 
 pub returns-then-roles-lt1 : goal.returns-then-roles-lt1

@@ -11,7 +11,7 @@ use Rattle.refusals.proofs.refused_by_scope.Goals as goal
 pub returns-then-within_scope : goal.returns-then-within_scope
 returns-then-within_scope c =
     let scope-at : (c.within_scope.result ≡ true) ↔ InScope (ScopeBy c.args.down.now c.args.up.now) c.args.c =
-      Iff.trans c.within_scope.ensures (in_scope_alike c.args.c c.scope-all.ensures) in
+    Iff.trans c.within_scope.ensures (in_scope_alike c.args.c c.scope-all.ensures) in
     scope_holds _ _ _ (holds scope-at c.if-within_scope.true) c.plain.ensures
 
 pub blame-requires : goal.blame-requires
@@ -20,5 +20,5 @@ blame-requires c = (c.requires, (c.scope-all.ensures, fails c.within_scope.ensur
 pub returns : goal.returns
 returns c =
     let scope-at : (c.within_scope.result ≡ true) ↔ InScope (ScopeBy c.args.down.now c.args.up.now) c.args.c =
-      Iff.trans c.within_scope.ensures (in_scope_alike c.args.c c.scope-all.ensures) in
+    Iff.trans c.within_scope.ensures (in_scope_alike c.args.c c.scope-all.ensures) in
     scope_fails _ _ _ (fails scope-at c.if-within_scope.false) c.blame.ensures

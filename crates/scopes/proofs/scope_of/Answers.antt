@@ -20,6 +20,6 @@ pub loop-r-preserved : goal.loop-r-preserved
 loop-r-preserved c =
     let taken : Taken c.loop-r.rest c.in-Role.r c.but_lowest-rest.result = taken_by (picked c.in-Role.is c.lowest.ensures) c.but_lowest-rest.ensures in
     elim c.if-related.branch [
-      then-related w ↦ sift_in taken c.loop-r.invariant w.with-found.result (c.related.ensures.0 w.if-related.true) w.with-found.ensures w.found-is
-    | else-related w ↦ sift_out taken c.loop-r.invariant (λ s. false_no w.if-related.false (c.related.ensures.1 s)) w.found-is
+      | then-related w ↦ sift_in taken c.loop-r.invariant w.with-found.result (c.related.ensures.0 w.if-related.true) w.with-found.ensures w.found-is
+      | else-related w ↦ sift_out taken c.loop-r.invariant (λ s. false_no w.if-related.false (c.related.ensures.1 s)) w.found-is
     ]

@@ -17,8 +17,8 @@ pub loop-x-preserved : goal.loop-x-preserved
 loop-x-preserved c = (
   search rules,
   below_more _ _ c.loop-x.invariant.1 (elim c.else-held-ne0.branch [
-    else-held-ne0-via-then-held-ne0+else-not-may_hold w ↦ let m = w.may_hold.ensures.0 w.if-not-may_hold.false in (m.0, λ d. absurd (false_no d m.1))
-  | else-held-ne0-via-else-held-ne0 w ↦ (omega (arith, w.if-held-ne0.false), λ _. w.if-held-ne0.false)
+    | else-held-ne0-via-then-held-ne0+else-not-may_hold w ↦ let m = w.may_hold.ensures.0 w.if-not-may_hold.false in (m.0, λ d. absurd (false_no d m.1))
+    | else-held-ne0-via-else-held-ne0 w ↦ (omega (arith, w.if-held-ne0.false), λ _. w.if-held-ne0.false)
   ]),
 )
 

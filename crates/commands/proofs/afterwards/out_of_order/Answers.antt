@@ -29,11 +29,11 @@ returns-then-not-within c = inr (looked_out c.args.live c.args.i.now c.args.a.no
 pub loop-x-smaller : goal.loop-x-smaller
 loop-x-smaller c =
     let taken : Taken c.loop-x.rest c.in-Role.x c.but_lowest-rest.result =
-      taken_by (picked c.in-Role.is c.lowest.ensures) c.but_lowest-rest.ensures in
+    taken_by (picked c.in-Role.is c.lowest.ensures) c.but_lowest-rest.ensures in
     taken_less taken
 
 pub loop-x-preserved : goal.loop-x-preserved
 loop-x-preserved c =
     let taken : Taken c.loop-x.rest c.in-Role.x c.but_lowest-rest.result =
-      taken_by (picked c.in-Role.is c.lowest.ensures) c.but_lowest-rest.ensures in
+    taken_by (picked c.in-Role.is c.lowest.ensures) c.but_lowest-rest.ensures in
     looked_turn c.args.live c.args.i.now c.args.a.now c.in-Role.x c.union.result c.within.result c.union.ensures c.within.ensures taken c.if-not-within.false c.loop-x.invariant

@@ -9,7 +9,7 @@ use Rattle.commands.proofs.afterwards.refused_after.Goals as goal
 pub returns-then-number-eq7 : goal.returns-then-number-eq7
 returns-then-number-eq7 c =
     let shaped : Shaped (tables c.args.live c.args.i.now c.args.a.now) =
-      record { live_fits = c.ranges.live.fits; i_rows = c.requires.0.rows; a_rows = c.requires.1.rows; i_fits = c.requires.0.fits; a_fits = c.requires.1.fits } in
+    record { live_fits = c.ranges.live.fits; i_rows = c.requires.0.rows; a_rows = c.requires.1.rows; i_fits = c.requires.0.fits; a_fits = c.requires.1.fits } in
     let w = c.work_out-number.ensures in record {
       numbered = late_disordered (tables c.args.live c.args.i.now c.args.a.now) _ _ shaped (worked_disordered w c.if-number-eq7.true) c.out_of_order.ensures;
       right = λ z. ⊎_elim (λ p. absurd (omega (arith, z, p.1))) (λ p. absurd (omega (arith, z, p.1))) c.out_of_order.ensures;
