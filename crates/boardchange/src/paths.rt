@@ -1,5 +1,6 @@
 // The names beside the board's: its lock, and the folder that both stand in.
 ghost use Rattle.std.specs.Prelude.{◌≤◌, length};
+ghost use Rattle.std.specs.Str.{IsCharBoundary};
 
 use arrayvec::ArrayString;
 use std::fs;
@@ -19,7 +20,8 @@ pub(crate) fn is_lock(name: &str) -> bool {
 
 // How many bytes of the name its folder has, with the '/' that ends it; 0 where it names none.
 pub(crate) fn folder(name: &str) -> usize
-    ensures { result ≤ length name.now }
+    ensures within { result ≤ length name.now }
+    ensures boundary { IsCharBoundary name.now result }
 {
     let text = name.as_bytes();
     let mut n = text.len();
