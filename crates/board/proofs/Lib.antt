@@ -8,6 +8,4 @@ pub mod Looking
 pub mod Fitting
 pub mod Asking
 pub mod Reading
-pub mod Fields
-pub mod Lending
 pub mod Values

@@ -4,7 +4,7 @@ ghost use Rattle.board.specs.Answers.{plain};
 
 // The number, 0 for done. With 6: the first role that offends, the cause, and with cause 2 the role in the way, which may be role 0, else 0.
 // With any other number all three are 0.
-#[derive(Drop)]
+#[derive(Clone, Copy)]
 pub struct Answer {
     pub number: u8,
     pub who: u8,

@@ -11,7 +11,7 @@ use hierarchy::shape::{whole, whole_row};
 use sets::has;
 
 // The line manager of a role, or nobody: a caller has to meet both.
-#[derive(Drop)]
+#[derive(Clone, Copy)]
 pub enum Manager {
     Role(u8),
     Nobody,

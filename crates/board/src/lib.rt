@@ -17,7 +17,7 @@ mod rights;
 // board where they are wrong is not sound. `rights` has a byte for each role, with the right to give command 1 in its lowest bit and
 // so on; a board is not sound where a role that isn't live has one, or where there are more than the five.
 #[repr(C)]
-#[derive(Drop)]
+#[derive(Clone, Copy)]
 pub struct Board {
     pub live: u64,
     pub i: [u64; Board::ROLES],
@@ -65,7 +65,7 @@ impl Board {
 // What a coordinator asks for. `role` is the role of commands 1, 2, 6 and 7, and the senior of 3, 4 and 5; `rights` are those that 6
 // gives and 7 takes. A field that a command doesn't use may hold anything. Numbers are as wide as a caller's, so that one that is no role stays none and is refused.
 #[repr(C)]
-#[derive(Drop)]
+#[derive(Clone, Copy)]
 pub struct Command {
     pub code: u32,
     pub actor: u32,

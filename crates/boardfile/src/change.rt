@@ -8,7 +8,7 @@ use commands::decide_trusting;
 use writer::put;
 
 // Where a number arose: in the command (and every 0), in the file handed in, in writing the new one.
-#[derive(Drop)]
+#[derive(Clone, Copy)]
 pub enum Place {
     Asked,
     File,
@@ -16,7 +16,7 @@ pub enum Place {
 }
 
 // The command's own answer where it arose there, else a number alone; and the length of the new file.
-#[derive(Drop)]
+#[derive(Clone, Copy)]
 pub struct Commanded {
     pub place: Place,
     pub answer: Answer,

@@ -17,7 +17,7 @@ ghost use Rattle.boardfile.specs.Answers.{ReadAnswer};
 use board::Board;
 use opening::open;
 
-#[derive(Drop)]
+#[derive(Clone, Copy)]
 pub struct Reading {
     pub number: u8,
     pub board: Board,

@@ -8,7 +8,7 @@ use frames::{Framed, frame};
 use hierarchy::working::work_out;
 
 // The number, and the live roles of the board; its tables and what it keeps go to what is lent.
-#[derive(Drop)]
+#[derive(Clone, Copy)]
 pub(crate) struct Opened {
     pub number: u8,
     pub live: u64,

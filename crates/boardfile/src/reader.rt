@@ -8,7 +8,7 @@ ghost use Rattle.frames.specs.Framing.{Announced};
 
 use sets::{has, with};
 
-#[derive(Drop)]
+#[derive(Clone, Copy)]
 pub(crate) enum Roles {
     Live(u64),
     Unlisted,
@@ -37,7 +37,7 @@ pub(crate) fn listed(file: &[u8], n: usize) -> Roles
     Roles::Live(live)
 }
 
-#[derive(Drop)]
+#[derive(Clone, Copy)]
 struct Edge {
     senior: usize,
     junior: usize,

@@ -21,7 +21,7 @@ use refusals::refused_on_board;
 use rights::change_rights;
 
 // The answer, and the board afterwards.
-#[derive(Drop)]
+#[derive(Clone, Copy)]
 pub struct Outcome {
     pub answer: Answer,
     pub board: Board,

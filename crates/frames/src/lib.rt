@@ -17,7 +17,7 @@ pub const TRAILER: usize = 6;
 
 pub const RIGHTS_TRAILER: usize = 8;
 
-#[derive(Drop)]
+#[derive(Clone, Copy)]
 pub enum Framed {
     Good {
         roles: usize,
@@ -27,7 +27,7 @@ pub enum Framed {
     Bad,
 }
 
-#[derive(Drop)]
+#[derive(Clone, Copy)]
 enum Ending {
     Plain,
     Rights,

@@ -80,11 +80,11 @@ module _ (t : List ℕ) where
       )
 
       still : grow t s ≡ s → (y : ℕ) → (y is_in s) ↔ Led t s y
-      still e y = (λ m. record { start = y; member = m; chain = stop }, λ l. along l.member l.chain)
+      still e y = (λ m. record { start = y; member = m; chain = stop }, λ l. along l.chain l.member)
         where
-          along : {x : ℕ} → x is_in s → Chain t x y → y is_in s
-          along m stop = m
-          along m (step {x = x} {y = z} g c) = along (ap (λ n. bit n z) (sym e) ∙ (grow_is z).1 (inl (x, (m, g)))) c
+          along : {x : ℕ} → Chain t x y → x is_in s → y is_in s
+          along stop m = m
+          along (step {x = x} {y = z} g c) m = along c (ap (λ n. bit n z) (sym e) ∙ (grow_is z).1 (inl (x, (m, g))))
 
     -- the rounds suffice, counted by the roles that are not yet in
     closes : (n s : ℕ) → s < 2 ^ 64 → 64 ≤ n + ones s → (close t n s < 2 ^ 64) × ((y : ℕ) → (y is_in close t n s) ↔ Led t s y)

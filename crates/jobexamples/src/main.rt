@@ -1,8 +1,10 @@
 // Runs the examples of request 5 through the job list's own functions and writes a line for each: what was asked, then what came back.
 // `stdout` has the same lines, worked out by hand from the documents.
 #![tactic(auto)]
+
 use board::{Board, Command};
 use commands::step;
+use std::io;
 
 mod lines;
 
@@ -76,34 +78,46 @@ fn four_jobs() -> [u8; 4] {
 }
 
 // Two members want one job, and roles that derive the job's role and that don't.
-fn claims(b: Board, roles: &[u8; 1024], marks: &mut [u8; 1024], members: &mut [u32; 1024]) {
-    lines::claim(b, roles, marks, members, 0, 7, 3);
-    lines::claim(b, roles, marks, members, 0, 8, 3);
-    lines::claim(b, roles, marks, members, 0, 7, 3);
-    lines::claim(b, roles, marks, members, 0, 8, 4);
-    lines::job(roles, marks, members, 0);
-    lines::claim(b, roles, marks, members, 1, 8, 1);
-    lines::claim(b, roles, marks, members, 2, 9, 3);
-    lines::claim(b, roles, marks, members, 2, 9, 1);
-    lines::claim(b, roles, marks, members, 2, 9, 2);
-    lines::claim(b, roles, marks, members, 3, 7, 3);
-    lines::job(roles, marks, members, 3);
+fn claims(
+    rt: &impl Print,
+    b: Board,
+    roles: &[u8; 1024],
+    marks: &mut [u8; 1024],
+    members: &mut [u32; 1024],
+) -> io::Result<()> {
+    lines::claim(rt, b, roles, marks, members, 0, 7, 3)?;
+    lines::claim(rt, b, roles, marks, members, 0, 8, 3)?;
+    lines::claim(rt, b, roles, marks, members, 0, 7, 3)?;
+    lines::claim(rt, b, roles, marks, members, 0, 8, 4)?;
+    lines::job(rt, roles, marks, members, 0)?;
+    lines::claim(rt, b, roles, marks, members, 1, 8, 1)?;
+    lines::claim(rt, b, roles, marks, members, 2, 9, 3)?;
+    lines::claim(rt, b, roles, marks, members, 2, 9, 1)?;
+    lines::claim(rt, b, roles, marks, members, 2, 9, 2)?;
+    lines::claim(rt, b, roles, marks, members, 3, 7, 3)?;
+    lines::job(rt, roles, marks, members, 3)
 }
 
 // By the holder, by a coordinator, by a stranger.
-fn releases(b: Board, roles: &[u8; 1024], marks: &mut [u8; 1024], members: &mut [u32; 1024]) {
-    lines::release(b, roles, marks, members, 0, 7, 3);
-    lines::job(roles, marks, members, 0);
-    lines::release(b, roles, marks, members, 0, 7, 3);
-    lines::release(b, roles, marks, members, 0, 7, 4);
-    lines::release(b, roles, marks, members, 1, 5, 4);
-    lines::release(b, roles, marks, members, 1, 5, 1);
-    lines::release(b, roles, marks, members, 2, 5, 1);
-    lines::job(roles, marks, members, 2);
-    lines::release(b, roles, marks, members, 2, 9, 3);
-    lines::claim(b, roles, marks, members, 2, 4294967295, 4);
-    lines::job(roles, marks, members, 2);
-    lines::release(b, roles, marks, members, 2, 0, 3);
+fn releases(
+    rt: &impl Print,
+    b: Board,
+    roles: &[u8; 1024],
+    marks: &mut [u8; 1024],
+    members: &mut [u32; 1024],
+) -> io::Result<()> {
+    lines::release(rt, b, roles, marks, members, 0, 7, 3)?;
+    lines::job(rt, roles, marks, members, 0)?;
+    lines::release(rt, b, roles, marks, members, 0, 7, 3)?;
+    lines::release(rt, b, roles, marks, members, 0, 7, 4)?;
+    lines::release(rt, b, roles, marks, members, 1, 5, 4)?;
+    lines::release(rt, b, roles, marks, members, 1, 5, 1)?;
+    lines::release(rt, b, roles, marks, members, 2, 5, 1)?;
+    lines::job(rt, roles, marks, members, 2)?;
+    lines::release(rt, b, roles, marks, members, 2, 9, 3)?;
+    lines::claim(rt, b, roles, marks, members, 2, 4294967295, 4)?;
+    lines::job(rt, roles, marks, members, 2)?;
+    lines::release(rt, b, roles, marks, members, 2, 0, 3)
 }
 
 // The same board with no live role, which isn't sound.
@@ -126,75 +140,98 @@ fn nobody(b: Board) -> Board {
 }
 
 // Numbers that are no role, no job and no live role, and a board that isn't sound: the board's refusals come first.
-fn refusals(b: Board, roles: &[u8; 1024], marks: &mut [u8; 1024], members: &mut [u32; 1024]) {
-    lines::claim(b, roles, marks, members, 0, 7, 64);
-    lines::claim(b, roles, marks, members, 4, 7, 3);
-    lines::claim(b, roles, marks, members, 1024, 7, 3);
-    lines::claim(b, roles, marks, members, 65536, 7, 3);
-    lines::claim(b, roles, marks, members, 2, 7, 5);
-    lines::release(b, roles, marks, members, 2, 4294967295, 5);
-    lines::job(roles, marks, members, 4);
-    lines::job(roles, marks, members, 1024);
-    lines::claim(nobody(b), roles, marks, members, 1024, 7, 64);
-    lines::release(nobody(b), roles, marks, members, 2, 4294967295, 4);
+fn refusals(
+    rt: &impl Print,
+    b: Board,
+    roles: &[u8; 1024],
+    marks: &mut [u8; 1024],
+    members: &mut [u32; 1024],
+) -> io::Result<()> {
+    lines::claim(rt, b, roles, marks, members, 0, 7, 64)?;
+    lines::claim(rt, b, roles, marks, members, 4, 7, 3)?;
+    lines::claim(rt, b, roles, marks, members, 1024, 7, 3)?;
+    lines::claim(rt, b, roles, marks, members, 65536, 7, 3)?;
+    lines::claim(rt, b, roles, marks, members, 2, 7, 5)?;
+    lines::release(rt, b, roles, marks, members, 2, 4294967295, 5)?;
+    lines::job(rt, roles, marks, members, 4)?;
+    lines::job(rt, roles, marks, members, 1024)?;
+    lines::claim(rt, nobody(b), roles, marks, members, 1024, 7, 64)?;
+    lines::release(rt, nobody(b), roles, marks, members, 2, 4294967295, 4)
 }
 
 // The role of a held job is removed from the board, and added again: the job stays held.
-fn removed_role(b: Board, roles: &[u8; 1024], marks: &mut [u8; 1024], members: &mut [u32; 1024]) {
-    let less = lines::command(b"removes role 4", b, remove_role(4));
-    lines::release(less, roles, marks, members, 2, 4294967295, 2);
-    lines::claim(less, roles, marks, members, 2, 9, 2);
-    lines::job(roles, marks, members, 2);
-    let again = lines::command(b"adds role 4, I-seniors 2", less, add_role(4, 0b100));
-    lines::claim(again, roles, marks, members, 2, 9, 2);
-    lines::release(again, roles, marks, members, 2, 9, 2);
-    lines::claim(again, roles, marks, members, 2, 9, 2);
-    lines::job(roles, marks, members, 2);
+fn removed_role(
+    rt: &impl Print,
+    b: Board,
+    roles: &[u8; 1024],
+    marks: &mut [u8; 1024],
+    members: &mut [u32; 1024],
+) -> io::Result<()> {
+    let less = lines::command(rt, b"removes role 4", b, remove_role(4))?;
+    lines::release(rt, less, roles, marks, members, 2, 4294967295, 2)?;
+    lines::claim(rt, less, roles, marks, members, 2, 9, 2)?;
+    lines::job(rt, roles, marks, members, 2)?;
+    let again = lines::command(rt, b"adds role 4, I-seniors 2", less, add_role(4, 0b100))?;
+    lines::claim(rt, again, roles, marks, members, 2, 9, 2)?;
+    lines::release(rt, again, roles, marks, members, 2, 9, 2)?;
+    lines::claim(rt, again, roles, marks, members, 2, 9, 2)?;
+    lines::job(rt, roles, marks, members, 2)
 }
 
 // The longest list, one that is longer, and one with a number that is no role.
-fn long_lists(b: Board, roles: &mut [u8; 1024], marks: &mut [u8; 1024], members: &mut [u32; 1024]) {
+fn long_lists(
+    rt: &impl Print,
+    b: Board,
+    roles: &mut [u8; 1024],
+    marks: &mut [u8; 1024],
+    members: &mut [u32; 1024],
+) -> io::Result<()> {
     let many = [3u8; 1025];
-    lines::start(&many[..1024], roles, marks, members);
-    lines::claim(b, roles, marks, members, 1023, 7, 3);
-    lines::claim(b, roles, marks, members, 1023, 8, 3);
-    lines::job(roles, marks, members, 1023);
-    lines::job(roles, marks, members, 0);
-    lines::start(&many, roles, marks, members);
-    lines::job(roles, marks, members, 1023);
-    lines::job(roles, marks, members, 0);
-    lines::start(&[63, 64], roles, marks, members);
-    lines::job(roles, marks, members, 0);
-    lines::start(&[63], roles, marks, members);
-    lines::job(roles, marks, members, 0);
-    lines::claim(b, roles, marks, members, 0, 7, 0);
-    lines::start(&many[..0], roles, marks, members);
-    lines::job(roles, marks, members, 0);
+    lines::start(rt, &many[..1024], roles, marks, members)?;
+    lines::claim(rt, b, roles, marks, members, 1023, 7, 3)?;
+    lines::claim(rt, b, roles, marks, members, 1023, 8, 3)?;
+    lines::job(rt, roles, marks, members, 1023)?;
+    lines::job(rt, roles, marks, members, 0)?;
+    lines::start(rt, &many, roles, marks, members)?;
+    lines::job(rt, roles, marks, members, 1023)?;
+    lines::job(rt, roles, marks, members, 0)?;
+    lines::start(rt, &[63, 64], roles, marks, members)?;
+    lines::job(rt, roles, marks, members, 0)?;
+    lines::start(rt, &[63], roles, marks, members)?;
+    lines::job(rt, roles, marks, members, 0)?;
+    lines::claim(rt, b, roles, marks, members, 0, 7, 0)?;
+    lines::start(rt, &many[..0], roles, marks, members)?;
+    lines::job(rt, roles, marks, members, 0)
 }
 
 // A claim asks who derives, and a release who has it in scope.
-fn deriving_and_scope(roles: &mut [u8; 1024], marks: &mut [u8; 1024], members: &mut [u32; 1024]) {
+fn deriving_and_scope(
+    rt: &impl Print,
+    roles: &mut [u8; 1024],
+    marks: &mut [u8; 1024],
+    members: &mut [u32; 1024],
+) -> io::Result<()> {
     let b = w();
-    lines::start(&[5], roles, marks, members);
-    lines::claim(b, roles, marks, members, 0, 7, 4);
-    lines::release(b, roles, marks, members, 0, 8, 4);
-    lines::release(b, roles, marks, members, 0, 8, 0);
-    lines::release(b, roles, marks, members, 0, 8, 1);
-    lines::claim(b, roles, marks, members, 0, 8, 0);
-    lines::claim(b, roles, marks, members, 0, 8, 3);
-    lines::job(roles, marks, members, 0);
+    lines::start(rt, &[5], roles, marks, members)?;
+    lines::claim(rt, b, roles, marks, members, 0, 7, 4)?;
+    lines::release(rt, b, roles, marks, members, 0, 8, 4)?;
+    lines::release(rt, b, roles, marks, members, 0, 8, 0)?;
+    lines::release(rt, b, roles, marks, members, 0, 8, 1)?;
+    lines::claim(rt, b, roles, marks, members, 0, 8, 0)?;
+    lines::claim(rt, b, roles, marks, members, 0, 8, 3)?;
+    lines::job(rt, roles, marks, members, 0)
 }
 
-fn main() {
+fn main(rt: HostRuntime) -> io::Result<()> {
     let b = two_coordinators();
     let mut roles = [0u8; 1024];
     let mut marks = [0u8; 1024];
     let mut members = [0u32; 1024];
-    lines::start(&four_jobs(), &mut roles, &mut marks, &mut members);
-    claims(b, &roles, &mut marks, &mut members);
-    releases(b, &roles, &mut marks, &mut members);
-    refusals(b, &roles, &mut marks, &mut members);
-    removed_role(b, &roles, &mut marks, &mut members);
-    long_lists(b, &mut roles, &mut marks, &mut members);
-    deriving_and_scope(&mut roles, &mut marks, &mut members);
+    lines::start(&rt, &four_jobs(), &mut roles, &mut marks, &mut members)?;
+    claims(&rt, b, &roles, &mut marks, &mut members)?;
+    releases(&rt, b, &roles, &mut marks, &mut members)?;
+    refusals(&rt, b, &roles, &mut marks, &mut members)?;
+    removed_role(&rt, b, &roles, &mut marks, &mut members)?;
+    long_lists(&rt, b, &mut roles, &mut marks, &mut members)?;
+    deriving_and_scope(&rt, &mut roles, &mut marks, &mut members)
 }

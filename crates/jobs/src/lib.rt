@@ -19,14 +19,14 @@ use rows::{all_roles, clear, copy, mark, role_of};
 mod rows;
 
 // Whether a job is open or held, and by whom.
-#[derive(Drop)]
+#[derive(Clone, Copy)]
 pub enum State {
     IsOpen,
     HeldBy(u32),
 }
 
 // Beside a refusal the state is open.
-#[derive(Drop)]
+#[derive(Clone, Copy)]
 pub struct Seen {
     pub number: u8,
     pub state: State,

@@ -16,7 +16,7 @@ use board::{Board, kept};
 use scopes::bars;
 use sets::{has, size};
 
-#[derive(Drop)]
+#[derive(Clone, Copy)]
 pub struct Derived {
     pub number: u8,
     pub yes: bool,
@@ -24,7 +24,7 @@ pub struct Derived {
 
 // `count` is of all roles in the scope that was asked about. Beside number 0 a no has its
 // cause, and with cause 2 the role in the way, which may be role 0; else both are 0.
-#[derive(Drop)]
+#[derive(Clone, Copy)]
 pub struct Scoped {
     pub number: u8,
     pub yes: bool,
@@ -33,13 +33,13 @@ pub struct Scoped {
     pub way: u8,
 }
 
-#[derive(Drop)]
+#[derive(Clone, Copy)]
 pub struct Managed {
     pub number: u8,
     pub manager: Manager,
 }
 
-#[derive(Drop)]
+#[derive(Clone, Copy)]
 pub struct Stepped {
     pub number: u8,
     pub steps: usize,

@@ -19,7 +19,7 @@ use scopes::{bars, scope};
 use sets::{Pick, has, lowest, minus, single, union, with, within, without};
 
 // A role that offends, and whether strict scope is asked of it.
-#[derive(Drop)]
+#[derive(Clone, Copy)]
 struct Offender {
     role: usize,
     strict: bool,

@@ -33,7 +33,7 @@ pub fn run(board: &mut Board, commands: &[Command], answers: &mut [u64]) -> u8
 }
 
 // What a run by value leaves: its number, an answer in each command's place and 0 in the others, and the last board.
-#[derive(Drop)]
+#[derive(Clone, Copy)]
 pub struct Evening {
     pub number: u8,
     pub answers: [u64; Evening::COMMANDS],

@@ -13,7 +13,7 @@ use sets::{Pick, but_lowest, has, lowest, minus, union, with, within};
 
 // What bars a role from a scope, as request 3 numbers it: the cause, 0 where the role is in the scope, and with cause 2 the role in the
 // way, which may be role 0; else 0.
-#[derive(Drop)]
+#[derive(Clone, Copy)]
 pub struct Bar {
     pub cause: u8,
     pub way: u8,

@@ -9,7 +9,7 @@ ghost use Rattle.std.specs.Int.Count.{ones};
 ghost use Rattle.sets.specs.Sets.{bit, same?, ◌are_in◌, Lowest, ButLowest, Highest};
 
 // One role of several, or nobody: a caller has to meet both.
-#[derive(Drop)]
+#[derive(Clone, Copy)]
 pub enum Pick {
     Role(usize),
     Nobody,

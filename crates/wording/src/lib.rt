@@ -19,7 +19,7 @@ mod names;
 pub mod pieces;
 
 // What a line means: a command, or that the word at this place is wrong, which is past the last word where one is missing.
-#[derive(Drop)]
+#[derive(Clone, Copy)]
 pub enum Meaning {
     Means(Command),
     Wrong(usize, Wanted),
@@ -27,7 +27,7 @@ pub enum Meaning {
 
 // What is wanted in the wrong word's place: a role, the name of a command, a kind, roles, rights, the name of a set that has not been
 // named yet, or nothing more.
-#[derive(Drop)]
+#[derive(Clone, Copy)]
 pub enum Wanted {
     Role,
     Name,
@@ -39,7 +39,7 @@ pub enum Wanted {
 }
 
 // The four sets of a new role.
-#[derive(Drop)]
+#[derive(Clone, Copy)]
 struct Sets {
     a_seniors: u64,
     i_seniors: u64,

@@ -113,7 +113,7 @@ fn most(rights: bool) -> usize
 }
 
 // The set that a list names, or that it is no such list.
-#[derive(Drop)]
+#[derive(Clone, Copy)]
 pub(crate) struct Listed {
     pub(crate) fine: bool,
     pub(crate) set: u64,

@@ -21,7 +21,7 @@ use board::checks::sound_of;
 use parts::{put_file, tail_len};
 use sets::{size, union};
 
-#[derive(Drop)]
+#[derive(Clone, Copy)]
 pub struct Written {
     pub number: u8,
     pub len: usize,

@@ -8,7 +8,7 @@ use crate::edges_below;
 use sets::{has, size};
 
 // Where the edge records of one senior begin in the file, and how many bytes they are; 0 and 0 where it has none, and with a refusal.
-#[derive(Drop)]
+#[derive(Clone, Copy)]
 pub struct Span {
     pub number: u8,
     pub start: usize,
