@@ -38,7 +38,7 @@ HEAD = re.compile(
     r"^(\s*)(?:(?:abbrev|unfoldable|pub|private|opaque|record|data|ruleset)\s+)*([^\s:(){}]+)(?:\s*\([^()]*\)|\s*\{[^{}]*\})*\s*:(?:\s|$)"
 )
 IMPORT = re.compile(r"^\s*(?:pub |ghost )?use ([^\s{};]+?)(?:\.\{([^}]*)\})?(?: as (\S+?))?;?\s*$")
-TOKEN = re.compile(r"--[^\n]*|" + WORD)
+TOKEN = re.compile(r"--[^\n]*|\"(?:[^\"\\]|\\.)*\"|" + WORD)
 
 
 def snake(name):
@@ -133,6 +133,8 @@ def main():
 
         def turn(m):
             word = m.group(0)
+            if word.startswith('"'):
+                return word
             if word.startswith("--"):
                 return re.sub(r"`([^`]+)`", lambda k: "`" + re.sub(WORD, lambda w: here.get(w.group(0), w.group(0)), k.group(1)) + "`", word)
             return here.get(word, word)

@@ -1,5 +1,5 @@
 -- What the functions on a board file answer: the refusals of each in the order they are tried, and what goes with done and with a refusal.
-use Rattle.std.specs.Prelude.{◌≡◌, Bool, false, ◌⊎◌, ◌≢◌, List, [], ◌∷◌, ◌++◌, ℕ, ◌+◌, ◌-◌, ◌<◌}
+use Rattle.std.specs.Prelude.{◌≡◌, Bool, false, ◌⊎◌, ◌≢◌, List, [], ◌∷◌, ◌++◌, ℕ, ◌<◌}
 use Rattle.sets.specs.Sets.{◌is_in◌}
 use Rattle.hierarchy.specs.Tables.{Tables, Shaped}
 use Rattle.hierarchy.specs.Words.{Derives, Scope, OutOfScope, Climb, Loops, Managed}

@@ -1,5 +1,5 @@
 -- What document 01 lists against the records of a board file and request 4 against its sibling's, read off the bytes: refusal 11.
-use Rattle.std.specs.Prelude.{◌≡◌, ◌≢◌, ◌⊎◌, List, ℕ, suc, ◌+◌, ◌-◌, ◌*◌, ◌≤◌, ◌<◌}
+use Rattle.std.specs.Prelude.{◌≡◌, ◌≢◌, ◌⊎◌, List, ℕ, suc, ◌+◌, ◌*◌, ◌≤◌, ◌<◌}
 use Rattle.board.specs.Rights.{rights_of, founding_rights}
 use Rattle.frames.specs.Frames.{byte, EndsHR, role_count, edge_count}
 

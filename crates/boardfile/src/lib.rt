@@ -4,6 +4,7 @@
 // Each function on a file opens it first, which works out what its board keeps; what follows reads it there, so that soundness is worked
 // out once.
 #![tactic(auto)]
+
 pub mod ask;
 pub mod change;
 pub mod lent;

@@ -21,7 +21,7 @@ kind_of w = place_in w (pieces 44 (bytes "I,A,IA")) + 1
 
 -- the four sets of a new role, 0 to 3; past 3, none
 abbrev pub option_of : List ℕ → ℕ
-option_of w = place_in w (pieces 44 (bytes "a_seniors,i_seniors,a_juniors,i_juniors"))
+option_of w = place_in w (pieces 44 (bytes "a-seniors,i-seniors,a-juniors,i-juniors"))
 
 -- the rights, each named by its command, 0 to 4 for the rights to commands 1 to 5; past 4, none
 abbrev pub right_of : List ℕ → ℕ

@@ -8,6 +8,7 @@
 //
 // SET is roles, as 1,2,5. Words stand apart by blanks. `specs/Meanings.antt` says what a line means.
 #![tactic(auto)]
+
 ghost use Rattle.std.specs.Prelude.{◌≡◌, cond};
 ghost use Rattle.wording.specs.Meanings.{asked, no_sets, set_at, with_set, sets_from, edge_from, rights_from, by_code, ends_at, meaning_of};
 

@@ -6,6 +6,7 @@
 // else any. Every other board has a rights byte for each live role, ascending, before the trailer, and the trailer has eight bytes: how far
 // before it the rights bytes begin comes first, and it ends in HR.
 #![tactic(auto)]
+
 mod parts;
 pub mod records;
 

@@ -1,7 +1,8 @@
+use borrow.Author.Tests.{not-true, not-false}
 use mathlib.Core.Logic.{inl, inr, ⊎_elim}
-use borrow.Author.Tests.{not-true}
 use Rattle.jobs.proofs.Deciding.{found, refused_first, release_14, release_15, release_done}
 use Rattle.jobs.proofs.release_of.Goals as goal
+use Rattle.jobs.proofs.release_of.Goals.{then-members-job+else-not-s, else-members-job}
 
 pub returns-then-s-ne0 : goal.returns-then-s-ne0
 returns-then-s-ne0 c = refused_first _ _ _ _ c.role_of-listed.ensures _ c.scope_of-s.ensures.numbered _ c.if-s-ne0.true
@@ -22,4 +23,4 @@ pub mark-requires : goal.mark-requires
 mark-requires c = found _ _ _ _ c.role_of-listed.ensures c.scope_of-s.ensures.numbered c.if-s-ne0.false
 
 pub returns : goal.returns
-returns c = release_done _ _ _ _ c.role_of-listed.ensures _ c.scope_of-s.ensures c.if-s-ne0.false c.if-marks-job-eq0.false (⊎_elim (λ w. inr (w.2.left)) (λ w. inl w) c.if-members-job.either) c.mark.ensures.0 c.mark.ensures.1
+returns c = release_done _ _ _ _ c.role_of-listed.ensures _ c.scope_of-s.ensures c.if-s-ne0.false c.if-marks-job-eq0.false (elim c.if-members-job.branch [ then-members-job+else-not-s w ↦ inr (not-false _ w.if-not-s.false) | else-members-job w ↦ inl w.if-members-job.false ]) c.mark.ensures.0 c.mark.ensures.1

@@ -24,21 +24,19 @@ bounds-a-x c = omega arith
 pub slice_bounds-put_row-count : goal.slice_bounds-put_row-count
 slice_bounds-put_row-count c =
     let few : c.loop-x.at ≤ length c.loop-x.out =
-      edges_put_few c.requires c.loop-x.invariant in
+    edges_put_few c.requires c.loop-x.invariant in
     few
 
 pub slice_bounds-put_row-start : goal.slice_bounds-put_row-start
 slice_bounds-put_row-start c =
     let few : c.loop-x.at ≤ length c.loop-x.out =
-      edges_put_few c.requires c.loop-x.invariant in
+    edges_put_few c.requires c.loop-x.invariant in
     let h = few in omega arith
 
 pub put_row-at-requires : goal.put_row-at-requires
 put_row-at-requires c =
-    let room : let s = c in =
-      c.loop-x.x in
-    c.loop-x.at + length (row_bytes c (get_or s.args.i.now c 0) (get_or s.args.a.now c 0)) ≤ length c.loop-x.out
-room = edges_put_room c.requires c.loop-x.invariant c.loop-x-test.true in
+    let room : c.loop-x.at + length (row_bytes c.loop-x.x (get_or c.args.i.now c.loop-x.x 0) (get_or c.args.a.now c.loop-x.x 0)) ≤ length c.loop-x.out =
+    edges_put_room c.requires c.loop-x.invariant c.loop-x-test.true in
     let l = c.loop-x in
     let h = room in
     (c.loop-x-test.true, omega (arith, rest_long l.at l.out))
@@ -49,7 +47,10 @@ loop-x-preserved c =
     c.put_row-at.ensures.0 c.put_row-at.ensures.1
 
 pub overflow_add-at : goal.overflow_add-at
-overflow_add-at c = let h = edges_put_small c.requires (loop-again c) in omega arith
+overflow_add-at c =
+    let h = edges_put_small c.requires
+    (edges_put_turn c.requires c.loop-x.invariant c.loop-x-test.true _ c.put_row-at.result c.put_row-at.ensures.0 c.put_row-at.ensures.1) in
+    omega arith
 
 pub overflow_add-x : goal.overflow_add-x
 overflow_add-x c = omega arith

@@ -20,8 +20,9 @@ put_trailer-requires c = (c.requires.1, c.requires.2, six_left c.args.out.now (c
 
 pub returns : goal.returns
 returns c =
-    rights_trailer_put c.args.out.now c.args.rights c.args.edges c.args.roles c.requires.3 c.put_trailer.new.1.1.1.0 c.put_trailer.ensures
+    rights_trailer_put c.args.out.now c.args.rights c.args.edges c.args.roles c.requires.3 c.put_trailer.new.out c.put_trailer.ensures
 
 pub shape_of-out : goal.shape_of-out
 unfolding rights_trailer
-shape_of-out c = put_length (rights_trailer c.args.rights c.args.edges c.args.roles) c.args.out.now _ (returns c) c.requires.3
+shape_of-out c = put_length (rights_trailer c.args.rights c.args.edges c.args.roles) c.args.out.now _
+    (rights_trailer_put c.args.out.now c.args.rights c.args.edges c.args.roles c.requires.3 c.put_trailer.new.out c.put_trailer.ensures) c.requires.3

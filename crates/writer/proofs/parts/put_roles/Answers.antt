@@ -17,13 +17,13 @@ returns-in_default c = roles_put_end c.requires c.loop-role.invariant (nobody c.
 pub overflow_cast-out : goal.overflow_cast-out
 overflow_cast-out c =
     let low : LowestRole c.loop-role.rest c.in-Role.role =
-      picked c.in-Role.is c.lowest.ensures in
+    picked c.in-Role.is c.lowest.ensures in
     let l = low in omega arith
 
 pub bounds-out-k : goal.bounds-out-k
 bounds-out-k c =
     let low : LowestRole c.loop-role.rest c.in-Role.role =
-      picked c.in-Role.is c.lowest.ensures in
+    picked c.in-Role.is c.lowest.ensures in
     each_put_room c.requires c.loop-role.invariant low
 
 pub overflow_add-k : goal.overflow_add-k
@@ -32,11 +32,11 @@ overflow_add-k c = let l = each_put_few c.requires c.loop-role.invariant in omeg
 pub loop-role-smaller : goal.loop-role-smaller
 loop-role-smaller c =
     let low : LowestRole c.loop-role.rest c.in-Role.role =
-      picked c.in-Role.is c.lowest.ensures in
+    picked c.in-Role.is c.lowest.ensures in
     let l = low in ones_less _ _ _ l.role l.member (c.but_lowest-rest.ensures.rest _ l)
 
 pub loop-role-preserved : goal.loop-role-preserved
 loop-role-preserved c =
     let low : LowestRole c.loop-role.rest c.in-Role.role =
-      picked c.in-Role.is c.lowest.ensures in
+    picked c.in-Role.is c.lowest.ensures in
     each_put_turn c.requires c.loop-role.invariant low c.but_lowest-rest.result (c.but_lowest-rest.ensures.rest _ low)

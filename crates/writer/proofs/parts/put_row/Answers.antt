@@ -24,61 +24,61 @@ overflow_cast-out c = omega arith
 pub bounds-out-at : goal.bounds-out-at
 bounds-out-at c =
     let low : LowestRole c.loop-junior.rest c.in-Role.junior =
-      picked c.in-Role.is c.lowest.ensures in
+    picked c.in-Role.is c.lowest.ensures in
     let room : c.loop-junior.at + 3 ≤ length c.loop-junior.out =
-      row_put_room c.requires.1 c.loop-junior.invariant low in
+    row_put_room c.requires.1 c.loop-junior.invariant low in
     let l = room in omega arith
 
 pub overflow_cast-out-in-loop-junior : goal.overflow_cast-out-in-loop-junior
 overflow_cast-out-in-loop-junior c =
     let low : LowestRole c.loop-junior.rest c.in-Role.junior =
-      picked c.in-Role.is c.lowest.ensures in
+    picked c.in-Role.is c.lowest.ensures in
     let l = low in omega arith
 
 pub overflow_add-out : goal.overflow_add-out
 overflow_add-out c =
     let few : c.loop-junior.at ≤ 192 =
-      row_put_few c.requires.1 c.loop-junior.invariant in
+    row_put_few c.requires.1 c.loop-junior.invariant in
     let l = few in omega arith
 
 pub bounds-out-at-in-loop-junior : goal.bounds-out-at-in-loop-junior
 bounds-out-at-in-loop-junior c =
     let low : LowestRole c.loop-junior.rest c.in-Role.junior =
-      picked c.in-Role.is c.lowest.ensures in
+    picked c.in-Role.is c.lowest.ensures in
     let room : c.loop-junior.at + 3 ≤ length c.loop-junior.out =
-      row_put_room c.requires.1 c.loop-junior.invariant low in
+    row_put_room c.requires.1 c.loop-junior.invariant low in
     let l = room in simp length-set (omega arith)
 
 pub overflow_add-out-in-loop-junior : goal.overflow_add-out-in-loop-junior
 overflow_add-out-in-loop-junior c =
     let few : c.loop-junior.at ≤ 192 =
-      row_put_few c.requires.1 c.loop-junior.invariant in
+    row_put_few c.requires.1 c.loop-junior.invariant in
     let l = few in omega arith
 
 pub bounds-out-at-in-loop-junior-2 : goal.bounds-out-at-in-loop-junior-2
 bounds-out-at-in-loop-junior-2 c =
     let low : LowestRole c.loop-junior.rest c.in-Role.junior =
-      picked c.in-Role.is c.lowest.ensures in
+    picked c.in-Role.is c.lowest.ensures in
     let room : c.loop-junior.at + 3 ≤ length c.loop-junior.out =
-      row_put_room c.requires.1 c.loop-junior.invariant low in
+    row_put_room c.requires.1 c.loop-junior.invariant low in
     let l = room in simp length-set (omega arith)
 
 pub overflow_add-at : goal.overflow_add-at
 overflow_add-at c =
     let few : c.loop-junior.at ≤ 192 =
-      row_put_few c.requires.1 c.loop-junior.invariant in
+    row_put_few c.requires.1 c.loop-junior.invariant in
     let l = few in omega arith
 
 pub loop-junior-smaller : goal.loop-junior-smaller
 loop-junior-smaller c =
     let low : LowestRole c.loop-junior.rest c.in-Role.junior =
-      picked c.in-Role.is c.lowest.ensures in
+    picked c.in-Role.is c.lowest.ensures in
     let l = low in ones_less _ _ _ l.role l.member (c.but_lowest-rest.ensures.rest _ l)
 
 pub loop-junior-preserved : goal.loop-junior-preserved
 loop-junior-preserved c =
     let low : LowestRole c.loop-junior.rest c.in-Role.junior =
-      picked c.in-Role.is c.lowest.ensures in
+    picked c.in-Role.is c.lowest.ensures in
     let l = c.loop-junior in
     subst
     (λ (z : ℕ). RowPut c.args.senior c.args.i c.args.a c.args.out.now (set (set (set l.out l.at c.args.senior) (l.at + 1) c.in-Role.junior) (l.at + 2) z) c.but_lowest-rest.result (l.at + 3))

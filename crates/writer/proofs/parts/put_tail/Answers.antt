@@ -1,3 +1,4 @@
+use mathlib.Core.Path.{◌≡◌}
 use Prim.Native.Nat.{◌+◌, ◌-◌, ◌≤◌}
 use native.Mathlib.Omega.{arith}
 use lib.ListN.{length}
@@ -23,30 +24,32 @@ overflow_cast-edges c = omega arith
 
 pub slice_bounds-put_rights_trailer-count : goal.slice_bounds-put_rights_trailer-count
 slice_bounds-put_rights_trailer-count c =
-    let long : let s = c in =
-      held_long c.requires c.if-plain.false c.args.rights.now _ c.put_rights.ensures in
+    let long : length (put_mid 0 (c.args.roles - 0) c.args.out.now c.put_rights.new.out) ≡ length c.args.out.now =
+    held_long c.requires c.if-plain.false c.args.rights.now _ c.put_rights.ensures in
     let fit : (c.args.roles ≤ 64) × (c.args.roles + 8 ≤ length c.args.out.now) =
-      rights_fit c.requires c.if-plain.false in
+    rights_fit c.requires c.if-plain.false in
     let h = fit in omega (arith, long)
 
 pub slice_bounds-put_rights_trailer-start : goal.slice_bounds-put_rights_trailer-start
 slice_bounds-put_rights_trailer-start c =
-    let long : let s = c in =
-      held_long c.requires c.if-plain.false c.args.rights.now _ c.put_rights.ensures in
+    let long : length (put_mid 0 (c.args.roles - 0) c.args.out.now c.put_rights.new.out) ≡ length c.args.out.now =
+    held_long c.requires c.if-plain.false c.args.rights.now _ c.put_rights.ensures in
     let fit : (c.args.roles ≤ 64) × (c.args.roles + 8 ≤ length c.args.out.now) =
-      rights_fit c.requires c.if-plain.false in
+    rights_fit c.requires c.if-plain.false in
     let h = fit in omega (arith, long)
 
 pub put_rights_trailer-requires : goal.put_rights_trailer-requires
 put_rights_trailer-requires c =
+    let long : length (put_mid 0 (c.args.roles - 0) c.args.out.now c.put_rights.new.out) ≡ length c.args.out.now =
+    held_long c.requires c.if-plain.false c.args.rights.now _ c.put_rights.ensures in
     let fit : (c.args.roles ≤ 64) × (c.args.roles + 8 ≤ length c.args.out.now) =
-      rights_fit c.requires c.if-plain.false in
+    rights_fit c.requires c.if-plain.false in
     let h = fit in
     let few = c.requires.few in (
       omega arith,
       omega (arith, c.edges_back.ensures, back_few c.args.roles c.args.edges),
       omega arith,
-      omega (arith, long w, rest_long c.args.roles (put_mid 0 (c.args.roles - 0) c.args.out.now c.put_rights.new.1.1.0)),
+      omega (arith, long, rest_long c.args.roles (put_mid 0 (c.args.roles - 0) c.args.out.now c.put_rights.new.out)),
     )
 
 pub returns : goal.returns
