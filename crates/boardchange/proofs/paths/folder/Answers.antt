@@ -1,6 +1,5 @@
-use Rattle.std.proofs.Common.{◌≤◌, length, ◌≡◌, ◌+◌, ◌-◌, ◌<◌, get_or, arith}
+use Rattle.std.proofs.Common.{◌≡◌, ◌+◌, ◌-◌, ◌<◌, get_or, arith}
 use Rattle.std.proofs.lemmas.Str.{IsCharBoundary-start, IsCharBoundary-after_ascii}
-use Rattle.std.specs.Str.{IsCharBoundary}
 use Rattle.boardchange.proofs.paths.folder.Goals as goal
 
 -- the place after a '/', and before the first byte, lies between two characters
