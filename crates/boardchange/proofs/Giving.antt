@@ -10,7 +10,7 @@ use Rattle.board.specs.declared.Board.{Board}
 use Rattle.board.specs.declared.Command.{Command}
 use Rattle.board.specs.declared.answers.Answer.{Answer}
 use Rattle.commands.specs.Commands.{Decided}
-use Rattle.runs.specs.Runs.{Ran, over, given}
+use Rattle.runs.specs.Runs.{over, given}
 use Rattle.runs.proofs.Running.{ran_join}
 use Rattle.wording.specs.Texts.{pieces, word_at}
 use Rattle.wording.specs.Meanings.{meaning_of}

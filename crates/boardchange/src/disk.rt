@@ -5,55 +5,45 @@ use crate::paths::folder;
 use crate::system::{keep_mode, see};
 use board::Board;
 use boardfile::lent::read_into;
+use std::fs::File;
+use std::io;
+use std::io::{Read, Write};
 use writer::write_of;
 
 // How much was read: n bytes, and whether no read failed.
 #[derive(Drop)]
 pub(crate) struct Amount {
     pub(crate) n: usize,
-    pub(crate) fine: bool,
+    pub(crate) fine: io::Result<()>,
 }
 
 // Reads until the buffer is full or the input ends.
-pub(crate) fn read_whole(fd: i32, out: &mut [u8]) -> Amount
+pub(crate) fn read_whole<R: Read>(from: &mut R, out: &mut [u8]) -> Amount
     ensures { result.n ≤ length out.new }
 {
     let mut n: usize = 0;
     while n < out.len() {
-        let got = libc::read(fd, &mut out[n..]);
-        if got < 0 {
-            return Amount { n, fine: false };
+        match from.read(&mut out[n..]) {
+            Ok(0) => return Amount { n, fine: Ok(()) },
+            Ok(more) => n += more,
+            Err(why) => return Amount { n, fine: Err(why) },
         }
-        let more = io::count(got, &out[n..]);
-        if more == 0 {
-            return Amount { n, fine: true };
-        }
-        n += more;
     }
-    Amount { n, fine: true }
+    Amount { n, fine: Ok(()) }
 }
 
-// How a board was read: the reader's number, and what kept the file from being read at all.
+// What kept a file from being read at all: the system; no regular file; several names, which would be several locks.
 #[derive(Drop)]
-pub(crate) struct Loaded {
-    pub(crate) trouble: u8,
-    pub(crate) number: u8,
+pub(crate) enum Trouble {
+    System(io::Error),
+    NoFile,
+    Names,
 }
 
-// The troubles: what errno says; no regular file; several names, which would be several locks.
-pub(crate) const SYSTEM: u8 = 1;
-
-pub(crate) const NO_FILE: u8 = 2;
-
-pub(crate) const NAMES: u8 = 3;
-
-fn not_loaded(trouble: u8) -> Loaded {
-    Loaded { trouble, number: 0 }
-}
-
-// Reads the board in a file that is open. One byte more than the longest file has is read, so that a longer one is refused and not cut.
+// Reads the board in a file that is open, and answers the reader's number. One byte more than the longest file has is read, so that a
+// longer one is refused and not cut.
 fn load_from(
-    fd: i32,
+    file: &mut File,
     live: &mut u64,
     i: &mut [u64; 64],
     a: &mut [u64; 64],
@@ -61,22 +51,27 @@ fn load_from(
     derivers: &mut [u64; 64],
     manager: &mut [u8; 64],
     rights: &mut [u8; 64],
-) -> Loaded {
+) -> Result<u8, Trouble> {
     let mut space = [0u8; Board::FILE + 1];
-    let got = read_whole(fd, &mut space);
-    if !got.fine {
-        return not_loaded(SYSTEM);
+    let got = read_whole(file, &mut space);
+    if let Err(why) = got.fine {
+        return Err(Trouble::System(why));
     }
     let n = got.n;
-    let number = read_into(&space[0..n], live, i, a, derives, derivers, manager, rights);
-    Loaded { trouble: 0, number }
+    Ok(read_into(&space[0..n], live, i, a, derives, derivers, manager, rights))
 }
 
-// Reads the board in the file into these parts; who may use that file may use the one that is open as `next`. Whoever may not write to
-// the file may not put another in its place, so it is opened for that too.
+// Opens a file for reading and writing.
+pub(crate) fn open_update(rt: HostRuntime, name: &str) -> io::Result<File> {
+    File::options().read(true).write(true).open(&rt, name)
+}
+
+// Reads the board in the file into these parts, and answers the reader's number; who may use that file may use the one that is open as
+// `next`. Whoever may not write to the file may not put another in its place, so it is opened for that too.
 pub(crate) fn load(
-    name: &[u8],
-    next: i32,
+    rt: HostRuntime,
+    name: &str,
+    next: &File,
     live: &mut u64,
     i: &mut [u64; 64],
     a: &mut [u64; 64],
@@ -84,29 +79,25 @@ pub(crate) fn load(
     derivers: &mut [u64; 64],
     manager: &mut [u8; 64],
     rights: &mut [u8; 64],
-) -> Loaded {
-    let fd = os::open_update(name);
-    if fd < 0 {
-        return not_loaded(SYSTEM);
-    }
-    let of = see(fd);
+) -> Result<u8, Trouble> {
+    let mut file = match open_update(rt, name) {
+        Ok(file) => file,
+        Err(why) => return Err(Trouble::System(why)),
+    };
+    let of = see(&file);
     if !of.regular {
-        libc::close(fd);
-        return not_loaded(NO_FILE);
+        return Err(Trouble::NoFile);
     }
     if of.names > 1 {
-        libc::close(fd);
-        return not_loaded(NAMES);
+        return Err(Trouble::Names);
     }
     keep_mode(of, next);
-    let loaded = load_from(fd, live, i, a, derives, derivers, manager, rights);
-    libc::close(fd);
-    loaded
+    load_from(&mut file, live, i, a, derives, derivers, manager, rights)
 }
 
 // Puts the board's file into an open file, down to the disk.
 pub(crate) fn store<'t>(
-    fd: i32,
+    file: &mut File,
     live: u64,
     i: &'t [u64; 64],
     a: &'t [u64; 64],
@@ -114,29 +105,27 @@ pub(crate) fn store<'t>(
     derivers: &'t [u64; 64],
     manager: &'t [u8; 64],
     rights: &'t [u8; 64],
-) -> bool {
+) -> io::Result<()> {
     let mut space = [0u8; Board::FILE];
     let written = write_of(
         live, i, a, derives, derivers, manager, rights, &mut space, 0,
     );
     let n = written.len;
     if written.number != 0 {
-        return false;
+        return Err(io::Error::from(io::ErrorKind::InvalidData));
     }
     if n > space.len() {
-        return false;
+        return Err(io::Error::from(io::ErrorKind::InvalidData));
     }
-    if !io::write_all(fd, &space[0..n]) {
-        return false;
-    }
-    libc::fsync(fd) == 0
+    file.write_all(&space[0..n])?;
+    file.sync_all()
 }
 
 // Opens the folder of a file, so that what its names mean can be brought down to the disk.
-pub(crate) fn open_folder(name: &[u8]) -> i32 {
+pub(crate) fn open_folder(rt: HostRuntime, name: &str) -> io::Result<File> {
     let n = folder(name);
     if n == 0 {
-        return os::open_read(b".");
+        return File::open(&rt, ".");
     }
-    os::open_read(&name[0..n])
+    File::open(&rt, &name[..n])
 }

@@ -14,6 +14,7 @@ use wording::{Meaning, meant};
 // One line. Where `aloud` its answer is said, with the line's number before it unless that is 0. A refusal is told off the board as it
 // is then, since it left that alone.
 fn turn(
+    rt: HostRuntime,
     live: &mut u64,
     i: &mut [u64; 64],
     a: &mut [u64; 64],
@@ -32,13 +33,13 @@ fn turn(
         Meaning::Means(c) => {
             let answer = decide(live, i, a, derives, derivers, manager, rights, c);
             if aloud {
-                say_answer(*live, i, a, derives, rights, c, answer, number);
+                say_answer(rt, *live, i, a, derives, rights, c, answer, number);
             }
             answer.number == 0
         }
         Meaning::Wrong(k, wanted) => {
             if aloud {
-                say_wrong(line, k, wanted, number);
+                say_wrong(rt, line, k, wanted, number);
             }
             false
         }
@@ -58,6 +59,7 @@ fn passed_over(line: &[u8]) -> bool
 
 // One line of many.
 fn line_turn(
+    rt: HostRuntime,
     live: &mut u64,
     i: &mut [u64; 64],
     a: &mut [u64; 64],
@@ -75,7 +77,7 @@ fn line_turn(
         return false;
     }
     turn(
-        live, i, a, derives, derivers, manager, rights, line, number, aloud,
+        rt, live, i, a, derives, derivers, manager, rights, line, number, aloud,
     )
 }
 
@@ -90,6 +92,7 @@ fn either(a: bool, b: bool) -> bool
 
 // Each line of a text.
 fn all_given(
+    rt: HostRuntime,
     live: &mut u64,
     i: &mut [u64; 64],
     a: &mut [u64; 64],
@@ -109,6 +112,7 @@ fn all_given(
     while from <= n {
         let end = piece_end(text, from, NEWLINE);
         let line_done = line_turn(
+            rt,
             live,
             i,
             a,
@@ -129,6 +133,7 @@ fn all_given(
 
 // The text is one command, or `many` lines.
 pub(crate) fn given(
+    rt: HostRuntime,
     live: &mut u64,
     i: &mut [u64; 64],
     a: &mut [u64; 64],
@@ -143,9 +148,11 @@ pub(crate) fn given(
     ensures { Gave (board_of live.old i.old a.old derives.old derivers.old manager.old rights.old) (text_commands many text.now) (board_of live.new i.new a.new derives.new derivers.new manager.new rights.new) result }
 {
     if many {
-        return all_given(live, i, a, derives, derivers, manager, rights, text, aloud);
+        return all_given(
+            rt, live, i, a, derives, derivers, manager, rights, text, aloud,
+        );
     }
     turn(
-        live, i, a, derives, derivers, manager, rights, text, 0, aloud,
+        rt, live, i, a, derives, derivers, manager, rights, text, 0, aloud,
     )
 }

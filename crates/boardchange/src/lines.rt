@@ -2,7 +2,8 @@
 // mix. What doesn't fit is left out.
 ghost use Rattle.std.specs.Prelude.{◌≤◌};
 
-use libc::{STDERR_FILENO, STDOUT_FILENO};
+use std::io;
+use std::io::{Cursor, Write};
 use wording::pieces::{NEWLINE, piece_end};
 
 // Puts a text into the buffer from a place on, and answers where it ends.
@@ -23,9 +24,10 @@ pub(crate) fn put(out: &mut [u8], at: usize, text: &[u8]) -> usize {
 }
 
 pub(crate) fn put_number(out: &mut [u8], at: usize, n: u64) -> usize {
-    let mut digits = [0u8; 20];
-    let k = io::decimal(n, &mut digits);
-    put(out, at, &digits[..k])
+    let mut digits = Cursor::new([0u8; 20]);
+    let _ = write!(digits, "{n}");
+    let k = least(digits.position() as usize, 20);
+    put(out, at, &digits.into_inner()[..k])
 }
 
 fn put_byte(out: &mut [u8], at: usize, b: u8) -> usize {
@@ -37,7 +39,7 @@ fn put_byte(out: &mut [u8], at: usize, b: u8) -> usize {
 }
 
 // The four numbers of a form, in the order in which it has places for them.
-#[derive(Drop)]
+#[derive(Clone, Copy)]
 pub(crate) struct Numbers {
     pub(crate) first: u64,
     pub(crate) second: u64,
@@ -147,25 +149,55 @@ pub(crate) fn put_quoted(out: &mut [u8], at: usize, text: &[u8]) -> usize {
     put(out, at, b"'")
 }
 
-// Writes the first n bytes of a buffer and ends the line; answers whether that went well.
-fn write_line(fd: i32, out: &mut [u8], n: usize) -> bool {
-    let n = put(out, n, b"\n");
-    if n <= out.len() {
-        return io::write_all(fd, &out[0..n]);
+// The first bytes of an error's text: std puts ' (os error 2)' behind the system's words.
+fn words_of(text: &[u8]) -> &[u8] {
+    let mut k: usize = 0;
+    while k < text.len() {
+        if text[k..].starts_with(b" (os error ") {
+            return &text[..k];
+        }
+        k += 1;
     }
-    false
+    text
 }
 
-pub(crate) fn say(out: &mut [u8], n: usize) {
-    if !write_line(STDOUT_FILENO, out, n) {
-        os::fail(b"standard output");
+// Puts the system's words for an error into the buffer.
+fn put_error(out: &mut [u8], at: usize, why: io::Error) -> usize {
+    let mut space = Cursor::new([0u8; 128]);
+    let _ = write!(space, "{why}");
+    let k = least(space.position() as usize, 128);
+    let text = space.into_inner();
+    put(out, at, words_of(&text[..k]))
+}
+
+// Writes the first n bytes of a buffer and ends the line.
+fn write_line<P: Print + Drop>(to: P, out: &mut [u8], n: usize) -> io::Result<()> {
+    let n = put(out, n, b"\n");
+    if n <= out.len() {
+        return to.write_all(&out[0..n]);
+    }
+    Err(io::Error::from(io::ErrorKind::WriteZero))
+}
+
+pub(crate) fn say(rt: HostRuntime, out: &mut [u8], n: usize) {
+    if let Err(why) = write_line(rt.stdout(), out, n) {
+        fail(rt, "standard output", why);
     }
 }
 
 // A line on standard error: a name, and what is the matter with it.
-pub(crate) fn complain(name: &[u8], what: &[u8]) {
+pub(crate) fn complain(rt: HostRuntime, name: &str, what: &str) {
     let mut out = [0u8; 4608];
-    let n = put(&mut out, 0, name);
-    let n = put(&mut out, n, what);
-    write_line(STDERR_FILENO, &mut out, n);
+    let n = put(&mut out, 0, name.as_bytes());
+    let n = put(&mut out, n, what.as_bytes());
+    let _ = write_line(rt.stderr(), &mut out, n);
+}
+
+// The same, of what the system refused.
+pub(crate) fn fail(rt: HostRuntime, name: &str, why: io::Error) {
+    let mut out = [0u8; 4608];
+    let n = put(&mut out, 0, name.as_bytes());
+    let n = put(&mut out, n, b": ");
+    let n = put_error(&mut out, n, why);
+    let _ = write_line(rt.stderr(), &mut out, n);
 }

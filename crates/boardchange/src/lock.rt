@@ -1,64 +1,78 @@
 // The lock of a board: a file beside it that one change makes and all others find. This program removes no other's.
-use crate::lines::complain;
+use crate::lines::{complain, fail};
 use crate::protocol::make;
 use crate::system::{nap, see};
-use libc::EEXIST;
+use std::fs::File;
+use std::os::fd::AsRawFd;
+use std::{fs, io};
 
 // how long a change waits for another, in hundredths of a second
 const PATIENCE: u32 = 500;
 
-// Makes the lock, and waits where another change has it. Answers a descriptor, or a number below 0 where it could not be made.
-fn taken(lock: &[u8]) -> i32 {
+// Whether the lock could not be made because there is one.
+fn is_busy(made: &io::Result<File>) -> bool {
+    match made {
+        Ok(_) => false,
+        Err(why) => why.kind() == io::ErrorKind::AlreadyExists,
+    }
+}
+
+// Makes the lock, and waits where another change has it. Answers the lock, open, or why it could not be made.
+fn taken(rt: HostRuntime, lock: &str) -> io::Result<File> {
     let mut left = PATIENCE;
-    let mut fd = make(lock);
+    let mut made = make(rt, lock);
     while left > 0 {
-        if fd >= 0 || os::errno() != EEXIST {
-            return fd;
+        if !is_busy(&made) {
+            return made;
         }
-        nap();
-        fd = make(lock);
+        nap(rt);
+        made = make(rt, lock);
         left -= 1;
     }
-    fd
+    made
 }
 
 // Whether somebody took our lock away: then the file of that name, if there is one, is another's.
-pub(crate) fn is_lost(fd: i32) -> bool {
-    see(fd).names == 0
+pub(crate) fn is_lost(held: &File) -> bool {
+    see(held).names == 0
 }
 
-// The lock goes, and only then its descriptor: while the file stands, whoever looks finds that somebody has it open.
-pub(crate) fn give_up(fd: i32, lock: &[u8]) {
-    if !is_lost(fd) {
-        os::unlink(lock);
+// The lock goes, and only then it is closed: while the file stands, whoever looks finds that somebody has it open.
+pub(crate) fn give_up(rt: HostRuntime, held: File, lock: &str) {
+    if !is_lost(&held) {
+        let _ = fs::remove_file(&rt, lock);
     }
-    libc::close(fd);
+    drop(held);
 }
 
 // Why there is no lock.
-fn say_untaken(lock: &[u8]) {
-    if os::errno() == EEXIST {
-        complain(b"busy: ", lock);
+fn say_untaken(rt: HostRuntime, lock: &str, why: io::Error) {
+    if why.kind() == io::ErrorKind::AlreadyExists {
+        complain(rt, "busy: ", lock);
         complain(
+            rt,
             lock,
-            b": another change holds this lock. If none is under way, one died and left it: remove it, or use ./change, which does",
+            ": another change holds this lock. If none is under way, one died and left it: remove it, or use ./change, which does",
         );
         return;
     }
-    os::fail(lock);
+    fail(rt, lock, why);
 }
 
 // Makes the lock, or says why not. A descriptor below 3 is a standard stream that was closed: what is said there would go into the board.
-pub(crate) fn take(lock: &[u8]) -> i32 {
-    let fd = taken(lock);
-    if fd < 0 {
-        say_untaken(lock);
-        return -1;
+pub(crate) fn take(rt: HostRuntime, lock: &str) -> Option<File> {
+    match taken(rt, lock) {
+        Ok(held) => {
+            if held.as_raw_fd() < 3 {
+                give_up(rt, held, lock);
+                complain(rt, lock, ": a standard stream is closed");
+                return None;
+            }
+            Some(held)
+        }
+        Err(why) => {
+            say_untaken(rt, lock, why);
+            None
+        }
     }
-    if fd < 3 {
-        give_up(fd, lock);
-        complain(lock, b": a standard stream is closed");
-        return -1;
-    }
-    fd
 }

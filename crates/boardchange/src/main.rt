@@ -22,44 +22,49 @@ mod protocol;
 mod reasons;
 mod system;
 
+use arrayvec::ArrayString;
 use board::Board;
-use disk::{NAMES, NO_FILE, open_folder, read_whole};
+use disk::{Trouble, open_folder, open_update, read_whole};
 use given::given;
-use input::{INPUT, gather};
-use libc::{ENOENT, STDERR_FILENO, STDIN_FILENO};
-use lines::{complain, put, put_line, put_quoted, say};
+use input::{INPUT, WORDS, arg_count, gather};
+use lines::{complain, fail, put, put_line, put_quoted, say};
 use lock::{give_up, take};
-use paths::{is_link, is_lock, put_lock};
-use protocol::{Begun, LOST, PLACED, UNWRITTEN, begin, put_in_place};
+use paths::{LOCK, is_link, is_lock, put_lock};
+use protocol::{Begun, Came, begin, put_in_place};
 use reasons::put_refused;
+use std::fs::File;
+use std::io;
+use std::rt::Env;
 
 // Why the new board isn't the file.
-fn say_unplaced(name: &[u8], lock: &[u8], came: u8) {
-    if came == LOST {
-        complain(lock, b": somebody removed this lock; nothing was changed");
-        return;
+fn say_unplaced(rt: HostRuntime, name: &str, lock: &str, came: Came) {
+    match came {
+        Came::Placed => {}
+        Came::Lost => complain(
+            rt,
+            lock,
+            ": somebody removed this lock; nothing was changed",
+        ),
+        Came::Unwritten(why) => fail(rt, lock, why),
+        Came::Unnamed(why) => fail(rt, name, why),
     }
-    if came == UNWRITTEN {
-        os::fail(lock);
-        return;
-    }
-    os::fail(name);
 }
 
 // What the names in the folder mean reaches the disk too.
-fn sync_folder(name: &[u8], folder: i32) {
-    if libc::fsync(folder) != 0 {
-        os::fail(name);
-        complain(name, b": changed, but a loss of power may undo it");
+fn sync_folder(rt: HostRuntime, name: &str, folder: &File) {
+    if let Err(why) = folder.sync_all() {
+        fail(rt, name, why);
+        complain(rt, name, ": changed, but a loss of power may undo it");
     }
 }
 
 // The new board takes the old one's place. Answers whether it did; where not, the lock is gone and the file as it was. The lock goes
 // before anything is said, here and everywhere.
 fn replace<'t>(
-    name: &[u8],
-    lock: &[u8],
-    fd: i32,
+    rt: HostRuntime,
+    name: &str,
+    lock: &str,
+    mut held: File,
     live: u64,
     i: &'t [u64; 64],
     a: &'t [u64; 64],
@@ -68,37 +73,41 @@ fn replace<'t>(
     manager: &'t [u8; 64],
     rights: &'t [u8; 64],
 ) -> bool {
-    let folder = open_folder(name);
-    if folder < 0 {
-        give_up(fd, lock);
-        os::fail(name);
-        return false;
+    let folder = match open_folder(rt, name) {
+        Ok(folder) => folder,
+        Err(why) => {
+            give_up(rt, held, lock);
+            fail(rt, name, why);
+            return false;
+        }
+    };
+    match put_in_place(
+        rt, name, lock, &mut held, live, i, a, down, up, manager, rights,
+    ) {
+        Came::Placed => {
+            drop(held);
+            sync_folder(rt, name, &folder);
+            true
+        }
+        came => {
+            give_up(rt, held, lock);
+            say_unplaced(rt, name, lock, came);
+            false
+        }
     }
-    let came = put_in_place(name, lock, fd, live, i, a, down, up, manager, rights);
-    if came != PLACED {
-        give_up(fd, lock);
-        say_unplaced(name, lock, came);
-        return false;
-    }
-    libc::close(fd);
-    sync_folder(name, folder);
-    true
 }
 
 // Why a file could not be read.
-fn say_trouble(name: &[u8], trouble: u8) {
-    if trouble == NO_FILE {
-        complain(name, b": no regular file");
-        return;
-    }
-    if trouble == NAMES {
-        complain(
+fn say_trouble(rt: HostRuntime, name: &str, trouble: Trouble) {
+    match trouble {
+        Trouble::NoFile => complain(rt, name, ": no regular file"),
+        Trouble::Names => complain(
+            rt,
             name,
-            b": it has another name, a hard link; two names would be two locks",
-        );
-        return;
+            ": it has another name, a hard link; two names would be two locks",
+        ),
+        Trouble::System(why) => fail(rt, name, why),
     }
-    os::fail(name);
 }
 
 // What is wrong with a board file: the line of its number.
@@ -115,7 +124,7 @@ fn fault(number: u8) -> usize {
     3
 }
 
-fn say_file_refused(number: u8) {
+fn say_file_refused(rt: HostRuntime, number: u8) {
     let mut out = [0u8; 512];
     let at = put_refused(&mut out, 0, number as u64);
     let at = put_line(
@@ -127,15 +136,16 @@ in the board file some role reaches itself
 in the board file some role has no administrator",
         fault(number),
     );
-    say(&mut out, at);
+    say(rt, &mut out, at);
 }
 
 // Gives the commands to the board of these parts and says nothing; where one was done, that board becomes the file. Answers whether the
 // answers may be said.
 fn change_file(
-    name: &[u8],
-    lock: &[u8],
-    fd: i32,
+    rt: HostRuntime,
+    name: &str,
+    lock: &str,
+    held: File,
     live: &mut u64,
     i: &mut [u64; 64],
     a: &mut [u64; 64],
@@ -146,18 +156,19 @@ fn change_file(
     text: &[u8],
     many: bool,
 ) -> bool {
-    if given(live, i, a, down, up, manager, rights, text, many, false) {
-        return replace(name, lock, fd, *live, i, a, down, up, manager, rights);
+    if given(rt, live, i, a, down, up, manager, rights, text, many, false) {
+        return replace(rt, name, lock, held, *live, i, a, down, up, manager, rights);
     }
-    give_up(fd, lock);
+    give_up(rt, held, lock);
     true
 }
 
 // The same with a copy of the board, which stays as it was read.
 fn change_by_copy<'t>(
-    name: &[u8],
-    lock: &[u8],
-    fd: i32,
+    rt: HostRuntime,
+    name: &str,
+    lock: &str,
+    held: File,
     live: u64,
     i: &'t [u64; 64],
     a: &'t [u64; 64],
@@ -176,9 +187,10 @@ fn change_by_copy<'t>(
     let mut new_manager = *manager;
     let mut new_rights = *rights;
     change_file(
+        rt,
         name,
         lock,
-        fd,
+        held,
         &mut new_live,
         &mut new_i,
         &mut new_a,
@@ -191,29 +203,29 @@ fn change_by_copy<'t>(
     )
 }
 
-// Whether there is a lock and a board was read; where not, the lock goes and it is said why.
-fn is_read(name: &[u8], lock: &[u8], begun: Begun) -> bool {
-    let fd = begun.fd;
-    if fd < 0 {
-        return false;
+// The lock, where a board was read; where not, it goes and it is said why.
+fn if_read(rt: HostRuntime, name: &str, lock: &str, begun: Begun) -> Option<File> {
+    let Begun { held, was } = begun;
+    match was {
+        Ok(0) => Some(held),
+        Ok(number) => {
+            give_up(rt, held, lock);
+            say_file_refused(rt, number);
+            None
+        }
+        Err(trouble) => {
+            give_up(rt, held, lock);
+            say_trouble(rt, name, trouble);
+            None
+        }
     }
-    if begun.trouble != 0 {
-        give_up(fd, lock);
-        say_trouble(name, begun.trouble);
-        return false;
-    }
-    if begun.number != 0 {
-        give_up(fd, lock);
-        say_file_refused(begun.number);
-        return false;
-    }
-    true
 }
 
 // Takes the lock, reads the board into these parts, and decides the commands on it.
 fn change_read(
-    name: &[u8],
-    lock: &[u8],
+    rt: HostRuntime,
+    name: &str,
+    lock: &str,
     live: &mut u64,
     i: &mut [u64; 64],
     a: &mut [u64; 64],
@@ -224,20 +236,22 @@ fn change_read(
     text: &[u8],
     many: bool,
 ) {
-    let begun = begin(name, lock, live, i, a, down, up, manager, rights);
-    if !is_read(name, lock, begun) {
+    let Some(begun) = begin(rt, name, lock, live, i, a, down, up, manager, rights) else {
         return;
-    }
+    };
+    let Some(held) = if_read(rt, name, lock, begun) else {
+        return;
+    };
     if change_by_copy(
-        name, lock, begun.fd, *live, i, a, down, up, manager, rights, text, many,
+        rt, name, lock, held, *live, i, a, down, up, manager, rights, text, many,
     ) {
         // the same again, aloud: the answers are those of the same commands on the same board
-        given(live, i, a, down, up, manager, rights, text, many, true);
+        given(rt, live, i, a, down, up, manager, rights, text, many, true);
     }
 }
 
 // Decides the commands of a text on the board in the file, and leaves the new board there.
-fn change(name: &[u8], lock: &[u8], text: &[u8], many: bool) {
+fn change(rt: HostRuntime, name: &str, lock: &str, text: &[u8], many: bool) {
     let mut live: u64 = 0;
     let mut i = [0u64; 64];
     let mut a = [0u64; 64];
@@ -246,6 +260,7 @@ fn change(name: &[u8], lock: &[u8], text: &[u8], many: bool) {
     let mut manager = [0u8; 64];
     let mut rights = [0u8; 64];
     change_read(
+        rt,
         name,
         lock,
         &mut live,
@@ -261,12 +276,13 @@ fn change(name: &[u8], lock: &[u8], text: &[u8], many: bool) {
 }
 
 // The founding board becomes the file.
-fn founded(name: &[u8], lock: &[u8], fd: i32) -> bool {
+fn founded(rt: HostRuntime, name: &str, lock: &str, held: File) -> bool {
     let b = Board::founding();
     replace(
+        rt,
         name,
         lock,
-        fd,
+        held,
         b.live,
         &b.i,
         &b.a,
@@ -278,34 +294,37 @@ fn founded(name: &[u8], lock: &[u8], fd: i32) -> bool {
 }
 
 // Makes the file, with the founding board, where there is none of that name.
-fn found(name: &[u8], lock: &[u8]) {
-    let fd = take(lock);
-    if fd < 0 {
+fn found(rt: HostRuntime, name: &str, lock: &str) {
+    let Some(held) = take(rt, lock) else {
         return;
+    };
+    match open_update(rt, name) {
+        Ok(there) => {
+            drop(there);
+            give_up(rt, held, lock);
+            complain(
+                rt,
+                name,
+                ": there is such a file already, which stays as it is",
+            );
+            return;
+        }
+        Err(why) => {
+            if why.kind() != io::ErrorKind::NotFound {
+                give_up(rt, held, lock);
+                fail(rt, name, why);
+                return;
+            }
+        }
     }
-    let there = os::open_update(name);
-    if there >= 0 {
-        libc::close(there);
-        give_up(fd, lock);
-        complain(
-            name,
-            b": there is such a file already, which stays as it is",
-        );
-        return;
-    }
-    if os::errno() != ENOENT {
-        give_up(fd, lock);
-        os::fail(name);
-        return;
-    }
-    if founded(name, lock, fd) {
+    if founded(rt, name, lock, held) {
         let mut out = [0u8; 16];
         let at = put(&mut out, 0, b"done");
-        say(&mut out, at);
+        say(rt, &mut out, at);
     }
 }
 
-fn say_too_long() {
+fn say_too_long(rt: HostRuntime) {
     let mut out = [0u8; 512];
     let at = put_refused(&mut out, 0, 2);
     let at = put(
@@ -313,116 +332,107 @@ fn say_too_long() {
         at,
         b"the input has more than 60000 bytes; nothing of it was tried",
     );
-    say(&mut out, at);
+    say(rt, &mut out, at);
 }
 
 // The commands on standard input. They are read before the lock is made: who types them slowly keeps nobody waiting.
-fn change_by_input(name: &[u8], lock: &[u8]) {
+fn change_by_input(rt: HostRuntime, name: &str, lock: &str) {
     let mut space = [0u8; INPUT + 1];
-    let got = read_whole(STDIN_FILENO, &mut space);
+    let got = read_whole(&mut rt.stdin(), &mut space);
     let n = got.n;
-    if !got.fine {
-        os::fail(b"standard input");
+    if let Err(why) = got.fine {
+        fail(rt, "standard input", why);
         return;
     }
     if n > INPUT {
-        say_too_long();
+        say_too_long(rt);
         return;
     }
-    change(name, lock, &space[0..n], true);
+    change(rt, name, lock, &space[0..n], true);
 }
 
 // Argument k in quotes, cut where it is long.
-fn put_argument(out: &mut [u8], at: usize, k: usize) -> usize {
-    let mut text = io::buffer();
-    let n = os::arg(k, &mut text);
-    if os::errno() != 0 {
-        return put_quoted(out, at, &text);
+fn put_argument(rt: HostRuntime, out: &mut [u8], at: usize, k: usize) -> usize {
+    let mut text = [0u8; WORDS];
+    match rt.arg(k, &mut text) {
+        Ok(n) => put_quoted(out, at, &text[..n]),
+        Err(_) => put_quoted(out, at, &text),
     }
-    put_quoted(out, at, &text[..n])
 }
 
-fn say_no_word(k: usize) {
+fn say_no_word(rt: HostRuntime, k: usize) {
     let mut out = [0u8; 512];
     let at = put_refused(&mut out, 0, 2);
-    let at = put_argument(&mut out, at, k);
+    let at = put_argument(rt, &mut out, at, k);
     let at = put(
         &mut out,
         at,
         b" can't be taken: no word is empty or has a blank in it, and all have at most 4095 bytes",
     );
-    say(&mut out, at);
+    say(rt, &mut out, at);
 }
 
 // The command of the arguments.
-fn change_by_words(name: &[u8], lock: &[u8]) {
-    let mut space = io::buffer();
-    let g = gather(&mut space);
+fn change_by_words(rt: HostRuntime, name: &str, lock: &str) {
+    let mut space = [0u8; WORDS];
+    let g = gather(rt, &mut space);
     if g.wrong != 0 {
-        say_no_word(g.wrong);
+        say_no_word(rt, g.wrong);
         return;
     }
     let n = g.n;
-    change(name, lock, &space[0..n], false);
+    change(rt, name, lock, &space[0..n], false);
 }
 
-fn asks_to_found() -> bool {
+fn asks_to_found(rt: HostRuntime) -> bool {
     let mut text = [0u8; 8];
-    let n = os::arg(2, &mut text);
-    check::same(&text[..n], b"found")
+    match rt.arg(2, &mut text) {
+        Ok(n) => &text[..n] == b"found".as_slice(),
+        Err(_) => false,
+    }
 }
 
-fn act(name: &[u8], lock: &[u8]) {
-    let count = os::arg_count();
+fn act(rt: HostRuntime, name: &str, lock: &str) {
+    let count = arg_count(rt);
     if count == 2 {
-        change_by_input(name, lock);
+        change_by_input(rt, name, lock);
         return;
     }
-    if count == 3 && asks_to_found() {
-        found(name, lock);
+    if count == 3 && asks_to_found(rt) {
+        found(rt, name, lock);
         return;
     }
-    change_by_words(name, lock);
-}
-
-// The same, with the lock's name at the start of a buffer.
-fn act_beside(name: &[u8], lock: &[u8; 4096], k: usize) {
-    let lock: &[u8] = lock;
-    if k <= lock.len() {
-        act(name, &lock[0..k]);
-    }
+    change_by_words(rt, name, lock);
 }
 
 // The same, with the lock's name from that of the file.
-fn act_on(name: &[u8]) {
+fn act_on(rt: HostRuntime, name: &str) {
     if name.len() == 0 {
-        complain(b"FILE", b": it has no name");
+        complain(rt, "FILE", ": it has no name");
         return;
     }
     if is_lock(name) {
-        complain(name, b": so a board's lock is called, not a board");
+        complain(rt, name, ": so a board's lock is called, not a board");
         return;
     }
-    if is_link(1) {
+    if is_link(rt, name) {
         complain(
+            rt,
             name,
-            b": a symbolic link; name the file itself, since two names would be two locks",
+            ": a symbolic link; name the file itself, since two names would be two locks",
         );
         return;
     }
-    let mut lock = io::buffer();
-    let n = os::arg(1, &mut lock);
-    let k = put_lock(&mut lock, n);
-    if k == 0 {
-        complain(name, b": too long a name");
+    let mut lock: ArrayString<LOCK> = ArrayString::new();
+    if !put_lock(&mut lock, name) {
+        complain(rt, name, ": too long a name");
         return;
     }
-    act_beside(name, &lock, k);
+    act(rt, name, lock.as_str());
 }
 
-fn usage() {
-    io::write_all(
-        STDERR_FILENO,
+fn usage(rt: HostRuntime) {
+    let _ = rt.stderr().write_all(
         b"usage: boardchange FILE COMMAND.. | boardchange FILE <COMMANDS | boardchange FILE found
   ACTOR add-role ROLE [a-seniors SET] [i-seniors SET] [a-juniors SET] [i-juniors SET]
   ACTOR remove-role ROLE
@@ -433,16 +443,18 @@ SET: roles, as 1,2,5. KIND: I, A or IA. RIGHTS: all, or names of commands, as ad
     );
 }
 
-fn main() {
-    if os::arg_count() < 2 {
-        usage();
+fn main(rt: HostRuntime) {
+    if arg_count(rt) < 2 {
+        usage(rt);
         return;
     }
-    let mut name = io::buffer();
-    let n = os::arg(1, &mut name);
-    if os::errno() != 0 {
-        os::fail(b"FILE");
+    let mut space = [0u8; 4096];
+    let Ok(n) = rt.arg(1, &mut space) else {
+        complain(rt, "FILE", ": File name too long");
         return;
+    };
+    match str::from_utf8(&space[..n]) {
+        Ok(name) => act_on(rt, name),
+        Err(_) => complain(rt, "FILE", ": its name is no UTF-8"),
     }
-    act_on(&name[..n]);
 }

@@ -1,25 +1,28 @@
 // The three steps that two changes at once rest on, and nothing else: `tests/race/broken` breaks each of them, and an edit of another file
 // must not outdate what it does.
-use crate::disk::{load, store};
+use crate::disk::{Trouble, load, store};
 use crate::lock::{is_lost, take};
+use std::fs::File;
+use std::{fs, io};
 
 // The lock is made where there is none: of those who try at once one succeeds.
-pub(crate) fn make(lock: &[u8]) -> i32 {
-    os::create(lock)
+pub(crate) fn make(rt: HostRuntime, lock: &str) -> io::Result<File> {
+    File::options().write(true).create_new(true).open(&rt, lock)
 }
 
-// A change that has begun: the lock's descriptor, below 0 where there is none, and how the board was read, as `Loaded` has it.
+// A change that has begun: the lock, open, and how the board was read, as `load` has it.
 #[derive(Drop)]
 pub(crate) struct Begun {
-    pub(crate) fd: i32,
-    pub(crate) trouble: u8,
-    pub(crate) number: u8,
+    pub(crate) held: File,
+    pub(crate) was: Result<u8, Trouble>,
 }
 
-// The lock first, the board then: whoever reads the file to decide on it is alone until it has decided.
+// The lock first, the board then: whoever reads the file to decide on it is alone until it has decided. Nothing has begun where there is
+// no lock.
 pub(crate) fn begin(
-    name: &[u8],
-    lock: &[u8],
+    rt: HostRuntime,
+    name: &str,
+    lock: &str,
     live: &mut u64,
     i: &mut [u64; 64],
     a: &mut [u64; 64],
@@ -27,37 +30,29 @@ pub(crate) fn begin(
     derivers: &mut [u64; 64],
     manager: &mut [u8; 64],
     rights: &mut [u8; 64],
-) -> Begun {
-    let fd = take(lock);
-    if fd < 0 {
-        return Begun {
-            fd,
-            trouble: 0,
-            number: 0,
-        };
-    }
-    let was = load(name, fd, live, i, a, derives, derivers, manager, rights);
-    Begun {
-        fd,
-        trouble: was.trouble,
-        number: was.number,
-    }
+) -> Option<Begun> {
+    let held = take(rt, lock)?;
+    let was = load(
+        rt, name, &held, live, i, a, derives, derivers, manager, rights,
+    );
+    Some(Begun { held, was })
 }
 
 // How far a new board came: it has the file's name; it isn't on the disk; the lock that it lies in was taken away; it got no name.
-pub(crate) const PLACED: u8 = 0;
-
-pub(crate) const UNWRITTEN: u8 = 1;
-
-pub(crate) const LOST: u8 = 2;
-
-pub(crate) const UNNAMED: u8 = 3;
+#[derive(Drop)]
+pub(crate) enum Came {
+    Placed,
+    Unwritten(io::Error),
+    Lost,
+    Unnamed(io::Error),
+}
 
 // The new board goes into the lock, down to the disk, and only then the lock takes the file's name: the file is at any moment a whole one.
 pub(crate) fn put_in_place<'t>(
-    name: &[u8],
-    lock: &[u8],
-    fd: i32,
+    rt: HostRuntime,
+    name: &str,
+    lock: &str,
+    held: &mut File,
     live: u64,
     i: &'t [u64; 64],
     a: &'t [u64; 64],
@@ -65,15 +60,15 @@ pub(crate) fn put_in_place<'t>(
     derivers: &'t [u64; 64],
     manager: &'t [u8; 64],
     rights: &'t [u8; 64],
-) -> u8 {
-    if !store(fd, live, i, a, derives, derivers, manager, rights) {
-        return UNWRITTEN;
+) -> Came {
+    if let Err(why) = store(held, live, i, a, derives, derivers, manager, rights) {
+        return Came::Unwritten(why);
     }
-    if is_lost(fd) {
-        return LOST;
+    if is_lost(held) {
+        return Came::Lost;
     }
-    if os::rename(lock, name) != 0 {
-        return UNNAMED;
+    if let Err(why) = fs::rename(&rt, lock, name) {
+        return Came::Unnamed(why);
     }
-    PLACED
+    Came::Placed
 }

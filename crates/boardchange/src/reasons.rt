@@ -62,13 +62,13 @@ fn put_place(out: &mut [u8], at: usize, text: &[u8]) -> usize {
     put_quoted(out, at, text)
 }
 
-pub(crate) fn say_wrong(line: &[u8], k: usize, wanted: Wanted, number: u64) {
+pub(crate) fn say_wrong(rt: HostRuntime, line: &[u8], k: usize, wanted: Wanted, number: u64) {
     let mut out = [0u8; LINE];
     let at = begin(&mut out, number);
     let at = put_refused(&mut out, at, 2);
     let at = put_place(&mut out, at, word(line, k));
     let at = put_wanted(&mut out, at, wanted);
-    say(&mut out, at);
+    say(rt, &mut out, at);
 }
 
 // ---- a command that was refused
@@ -407,6 +407,7 @@ fn put_reason<'t>(
 
 // The answer to a command, on the board before it; that it was done needs no board.
 pub(crate) fn say_answer<'t>(
+    rt: HostRuntime,
     live: u64,
     i: &'t [u64; 64],
     a: &'t [u64; 64],
@@ -421,10 +422,10 @@ pub(crate) fn say_answer<'t>(
     let refusal = answer.number;
     if refusal == 0 {
         let at = put(&mut out, at, b"done");
-        say(&mut out, at);
+        say(rt, &mut out, at);
         return;
     }
     let at = put_refused(&mut out, at, refusal as u64);
     let at = put_reason(&mut out, at, live, i, a, derives, rights, c, answer);
-    say(&mut out, at);
+    say(rt, &mut out, at);
 }

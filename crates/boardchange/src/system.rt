@@ -1,17 +1,12 @@
 // What is asked of the system.
-use libc::types::{stat, timespec};
+use std::fs::{File, Permissions};
+use std::os::unix::fs::{MetadataExt, PermissionsExt, fchown};
+use std::thread;
+use std::time::Duration;
 
 // Waits a hundredth of a second.
-pub(crate) fn nap() {
-    let asked = timespec {
-        tv_sec: 0,
-        tv_nsec: 10000000,
-    };
-    let mut left = timespec {
-        tv_sec: 0,
-        tv_nsec: 0,
-    };
-    libc::nanosleep(&asked, &mut left);
+pub(crate) fn nap(rt: HostRuntime) {
+    thread::sleep(&rt, Duration::from_millis(10));
 }
 
 // What the system says of an open file: whether it is a regular file, how many names it has, and who may use it.
@@ -24,15 +19,22 @@ pub(crate) struct Seen {
     group: u32,
 }
 
-pub(crate) fn see(fd: i32) -> Seen {
-    let looked = look(fd, blank());
-    let of = looked.of;
-    Seen {
-        regular: of.st_mode / 4096 == 8,
-        names: of.st_nlink,
-        mode: of.st_mode % 512,
-        owner: of.st_uid,
-        group: of.st_gid,
+pub(crate) fn see(file: &File) -> Seen {
+    match file.metadata() {
+        Ok(of) => Seen {
+            regular: of.is_file(),
+            names: of.nlink(),
+            mode: of.mode() % 512,
+            owner: of.uid(),
+            group: of.gid(),
+        },
+        Err(_) => Seen {
+            regular: false,
+            names: 0,
+            mode: 0,
+            owner: 0,
+            group: 0,
+        },
     }
 }
 
@@ -45,46 +47,8 @@ fn mode_for(mode: u32, same_group: bool) -> u32 {
 }
 
 // Gives an open file the mode of another, and its group and its owner where the system lets us give them away.
-pub(crate) fn keep_mode(of: Seen, to: i32) {
-    let same_group = libc::fchown(to, u32::MAX, of.group) == 0;
-    libc::fchown(to, of.owner, u32::MAX);
-    libc::fchmod(to, mode_for(of.mode, same_group));
-}
-
-// What `fstat` said of a file, over what was there before, and its answer, 0 where it went well.
-#[derive(Drop)]
-struct Looked {
-    answer: i32,
-    of: stat,
-}
-
-fn look(file: i32, blank: stat) -> Looked {
-    let mut of = blank;
-    let answer = libc::fstat(file, &mut of);
-    Looked { answer, of }
-}
-
-fn blank() -> stat {
-    let never = timespec {
-        tv_sec: 0,
-        tv_nsec: 0,
-    };
-    let unused = [0i64; 3];
-    stat {
-        st_dev: 0,
-        st_ino: 0,
-        st_nlink: 0,
-        st_mode: 0,
-        st_uid: 0,
-        st_gid: 0,
-        __pad: 0,
-        st_rdev: 0,
-        st_size: 0,
-        st_blksize: 0,
-        st_blocks: 0,
-        st_atim: never,
-        st_mtim: never,
-        st_ctim: never,
-        __unused: unused,
-    }
+pub(crate) fn keep_mode(of: Seen, to: &File) {
+    let same_group = fchown(to, None, Some(of.group)).is_ok();
+    let _ = fchown(to, Some(of.owner), None);
+    let _ = to.set_permissions(Permissions::from_mode(mode_for(of.mode, same_group)));
 }
