@@ -5,7 +5,7 @@ use native.Mathlib.Omega.{arith}
 use Rattle.hierarchy.specs.Words.{Sound}
 use Rattle.hierarchy.specs.First.{First}
 use Rattle.hierarchy.proofs.Decide.{sound_dec}
-use Rattle.hierarchy.proofs.FirstLaws.{hit, none}
+use Rattle.hierarchy.proofs.FirstLaws.{hit}
 use Rattle.board.specs.Boards.{tables_of, SoundBoard}
 use Rattle.board.specs.Asked.{Answered}
 use Rattle.board.specs.declared.Board.{Board}

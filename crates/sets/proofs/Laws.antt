@@ -1,7 +1,7 @@
 -- The laws of sets of roles: what callers cite. Assumes nothing.
 use mathlib.Core.Path.{◌≡◌, refl, sym, ap, ◌∙◌, subst}
 use mathlib.Core.Bool.{Bool, true, false, not, ◌&&◌, and-true, and-false}
-use mathlib.Core.Logic.{◌⊎◌, ⊎_elim, ◌↔◌, dite}
+use mathlib.Core.Logic.{⊎_elim, ◌↔◌, dite}
 use Prim.Native.Nat.{ℕ, zero, suc, ◌+◌, ◌-◌, ◌*◌, ◌/◌, ◌%◌, ◌^◌, ◌≤◌, ◌<◌, zero-le, suc-le-suc}
 use native.Mathlib.Nat.{mod-lt, mod-eq_of_lt, one-mul, le_refl, le_trans, le_antisymm, le_of_suc-le-suc, pow-suc, mul_comm, div-lt_iff_lt-mul, le-div_iff_mul-le}
 use native.Mathlib.Decide.{ℕ_discrete}
