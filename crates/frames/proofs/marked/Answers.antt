@@ -1,4 +1,3 @@
-use mathlib.Core.Logic.{⊎_elim}
 use Rattle.frames.proofs.marked.Goals as goal
 use Rattle.frames.proofs.marked.Goals.{else-first-via-then-first+else-last, else-first-via-else-first, else-first-2-via-then-first-2+else-last-2, else-first-2-via-else-first-2}
 

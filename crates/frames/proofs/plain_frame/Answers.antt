@@ -3,7 +3,7 @@ use mathlib.Core.Bool.{true≢false}
 use mathlib.Core.Logic.{⊎_elim}
 use Prim.Native.Nat.{ℕ, ◌%◌}
 use native.Mathlib.Omega.{arith}
-use borrow.Author.Tests.{ltb-true, eqb-true}
+use borrow.Author.Tests.{ltb-true}
 use Rattle.frames.specs.Frames.{BadFrame.hh, BadHH.long, BadHH.not_all, BadHH.too_far, BadHH.no_triples, BadHH.no_roles, BadHH.many_roles}
 use Rattle.frames.proofs.Frames.{framed}
 use Rattle.frames.proofs.plain_frame.Goals as goal

@@ -1,5 +1,5 @@
 use borrow.Author.Tests.{not-true, not-false}
-use mathlib.Core.Logic.{inl, inr, ⊎_elim}
+use mathlib.Core.Logic.{inl, inr}
 use Rattle.jobs.proofs.Deciding.{found, refused_first, release_14, release_15, release_done}
 use Rattle.jobs.proofs.release_of.Goals as goal
 use Rattle.jobs.proofs.release_of.Goals.{then-members-job+else-not-s, else-members-job}
