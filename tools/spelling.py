@@ -33,6 +33,8 @@ APART = {
     "some-done": "some_done_lem",
     "steps_up": "steps_up_lem",
 }
+# Parameters and names for an import that specs/ has, and one that the kit's script took for a lemma.
+ALSO = {"commandRefusals": "command_refusals", "file-at": "file_at", "line_at_lem": "line_at"}
 WORD = r"[^\s(){}.;,@\"«»\[\]\\`]+"
 HEAD = re.compile(
     r"^(\s*)(?:(?:abbrev|unfoldable|pub|private|opaque|record|data|ruleset)\s+)*([^\s:(){}]+)(?:\s*\([^()]*\)|\s*\{[^{}]*\})*\s*:(?:\s|$)"
@@ -120,6 +122,7 @@ def main():
         print("fall together:", new, sorted(olds), [own[o] for o in olds])
         for old in olds:
             names.pop(old, None)
+    names.update(ALSO)
     # how an operator is called: without the holes
     for old, new in list(names.items()):
         if "◌" in old:

@@ -91,10 +91,10 @@ module _ (f : List ℕ) where
       (λ z. let p = r.refused z in let q = s.refused (λ w. z (e ∙ w)) in (p.0 ∙ sym q.0, p.1 ∙ sym q.1))
 
   -- the bytes, and where they lie
-  pub stretch_unique : (file-at : ℕ × ℕ) (role : ℕ) {x y : List ℕ} {p q : ℕ × ℕ} → StretchOf f file-at role x p → StretchOf f file-at role y q → (x ≡ y) × (p ≡ q)
-  stretch_unique file-at role r s =
+  pub stretch_unique : (file_at : ℕ × ℕ) (role : ℕ) {x y : List ℕ} {p q : ℕ × ℕ} → StretchOf f file_at role x p → StretchOf f file_at role y q → (x ≡ y) × (p ≡ q)
+  stretch_unique file_at role r s =
       let e = answer_one role r.1 s.1 in
-      (e.0, ap₂ (λ (k l : ℕ). (k, l)) (r.2 ∙ sym s.2) (r.3 ∙ ap (λ (n : ℕ). file-at.1 + n) e.1 ∙ sym s.3))
+      (e.0, ap₂ (λ (k l : ℕ). (k, l)) (r.2 ∙ sym s.2) (r.3 ∙ ap (λ (n : ℕ). file_at.1 + n) e.1 ∙ sym s.3))
 
 -- ---- a command on a file: the place, the number, the length and the whole buffer
 

@@ -38,7 +38,7 @@ use Rattle.refusals.proofs.Blaming.{blames_one}
 use Rattle.refusals.proofs.Offenders.{blamed_where}
 use Rattle.refusals.proofs.Trying.{role_lt, junior_lt}
 use Rattle.commands.specs.RightsAfter.{rights_after}
-use Rattle.commands.specs.Commands.{afterwards, on_tables, Made, Decided, refusals as commandRefusals}
+use Rattle.commands.specs.Commands.{afterwards, on_tables, Made, Decided, refusals as command_refusals}
 use Rattle.commands.specs.EdgeParts.{both, less, NoneStands, TakesBack}
 use Rattle.commands.proofs.RightsLeft.{rights_stay, idle_rights}
 use Rattle.commands.proofs.SoundAfter.{idle_change}
@@ -76,10 +76,10 @@ refused_among t n f z = ⊎_elim (λ e. absurd (z e)) (λ a. a) (first_among t n
 
 -- a command on a board: 1 to 9, or 13
 pub command_ends : {b board : Board} {c : Command} {answer : Answer} → Decided b c answer board
-    → ((answer.number ≡ 0) × Made SoundBoard b c board) ⊎ (Among answer.number (commandRefusals b c) × (board ≡ b))
+    → ((answer.number ≡ 0) × Made SoundBoard b c board) ⊎ (Among answer.number (command_refusals b c) × (board ≡ b))
 command_ends {b} {board} {c} {answer} d = dite (ℕ_discrete answer.number 0)
     (λ e. inl (e, d.done e))
-    (λ n. inr (refused_among (commandRefusals b c) answer.number d.numbered n, d.refused n))
+    (λ n. inr (refused_among (command_refusals b c) answer.number d.numbered n, d.refused n))
 
 -- the only row of a table, or done
 first_only : {k : ℕ} {P : Type 0} {n : ℕ} → First ((k, P) ∷ []) n → ((n ≡ k) × P) ⊎ (n ≡ 0)
@@ -99,14 +99,14 @@ run_ends n places r = ⊎_elim
 module _ {b board : Board} (first : List Command) {c : Command} {rest : List Command} {entry exit : List ℕ} (w : Went b (first ++ c ∷ rest) entry exit board) where
   pub run_command_ends : (p : InItsPlace b first c rest entry exit board)
       × (((p.answer.number ≡ 0) × Made SoundBoard p.before c p.after)
-      ⊎ (Among p.answer.number (commandRefusals p.before c) × (p.after ≡ p.before) × Ran b (first ++ rest) (p.early ++ p.late) board))
+      ⊎ (Among p.answer.number (command_refusals p.before c) × (p.after ≡ p.before) × Ran b (first ++ rest) (p.early ++ p.late) board))
   run_command_ends =
       let p = in_its_place first w in
       let number = p.answer.number in (
         p,
         dite (ℕ_discrete number 0)
             (λ e. inl (e, p.decided.done e))
-            (λ n. inr (refused_among (commandRefusals p.before c) number p.decided.numbered n, p.decided.refused n, without_refused p n)),
+            (λ n. inr (refused_among (command_refusals p.before c) number p.decided.numbered n, p.decided.refused n, without_refused p n)),
       )
 
 pub run_beyond : {b board : Board} {commands : List Command} {entry exit : List ℕ} → Went b commands entry exit board → drop (length commands) exit ≡ drop (length commands) entry
@@ -139,7 +139,7 @@ pub file_command_ends : {f : List ℕ} {c : Command} {entry exit : List ℕ} {pl
     → ((answer.number ≡ 0) × ((b : Board) × ReadAnswer f 0 b × Placed (file_of (after (tables_of b) c) (rights_after c b.rights)) entry 0 exit len))
     ⊎ (Refused f c answer.number × Unplaced entry exit len)
 file_command_ends {f} (unread {number = n} r z e) = inr (inl (refused_among (refusals f) n r.numbered z), (refl, e))
-file_command_ends {c = c} (refused {answer = m} {b = b} r d z e) = inr (inr (b, r, inl (refused_among (commandRefusals b c) m.number d.numbered z)), (refl, e))
+file_command_ends {c = c} (refused {answer = m} {b = b} r d z e) = inr (inr (b, r, inl (refused_among (command_refusals b c) m.number d.numbered z)), (refl, e))
 file_command_ends (no_room {b = b} r d w) = inr (inr (b, r, inr refl), w.refused (λ e. absurd (omega (arith, e))))
 file_command_ends {entry = entry} {exit = exit} {len = len} (done {b = b} r d w) =
     let made = d.done refl in
@@ -175,7 +175,7 @@ module _ {b : Board} (wrong : KeepsRight b × RightsFit b.live b.rights → ⊥)
   unsound s = wrong (s.right, s.rightful)
 
   pub wrong_value_command : {next : Board} {c : Command} {answer : Answer} → Decided b c answer next → answer.number ≡ 1
-  wrong_value_command {c = c} {answer = answer} d = first_unique (commandRefusals b c) answer.number 1 d.numbered (hit _ _ _ unsound)
+  wrong_value_command {c = c} {answer = answer} d = first_unique (command_refusals b c) answer.number 1 d.numbered (hit _ _ _ unsound)
 
   pub wrong_value_question : (x y number : ℕ) → First (questionRefusals b x y) number → number ≡ 1
   wrong_value_question x y number f = first_unique (questionRefusals b x y) number 1 f (hit _ _ _ unsound)
@@ -186,7 +186,7 @@ module _ {b : Board} (wrong : KeepsRight b × RightsFit b.live b.rights → ⊥)
 -- an edge is its parts (request 2): what is added joins what stands, what is removed leaves the rest, and the edge goes with its last part
 module _ {b next : Board} {c : Command} (d : Decided b c (plain 0) next) where
   formed : Malformed c → ⊥
-  formed = (first_done (commandRefusals b c) refl d.numbered).1.0
+  formed = (first_done (command_refusals b c) refl d.numbered).1.0
 
   pub edge_added : c.code ≡ 3 → edge_kind (tables_of next) c ≡ both (edge_kind (tables_of b) c) c.kind
   edge_added e = ap (λ t. edge_kind t c) (d.done refl).tables_are ∙ kind_added c (role_lt c formed) (junior_lt c formed (omega (arith, e), omega (arith, e))) (tables_of b) e
@@ -199,14 +199,14 @@ module _ {b next : Board} {c : Command} (d : Decided b c (plain 0) next) where
       → Entitled (Derives (tables_of b)) b.rights r → (answer.number ≡ 0) × (last ≡ b)
   added_taken_back {last} {r} {answer} again w free right =
       let number = answer.number in
-      let passed = first_done (commandRefusals b c) refl d.numbered in
+      let passed = first_done (command_refusals b c) refl d.numbered in
       let now = d.done refl in
       let kept : SoundBoard b → next.rights ≡ b.rights = λ s. now.rights_are ∙ rights_stay c formed s.rightful (omega (arith, w.adds)) (omega (arith, w.adds)) in
-      let zero : number ≡ 0 = stable (ℕ_discrete number 0) (λ k. passed.0 (λ s. k (first_unique (commandRefusals next r) number 0 again.numbered
+      let zero : number ≡ 0 = stable (ℕ_discrete number 0) (λ k. passed.0 (λ s. k (first_unique (command_refusals next r) number 0 again.numbered
       (pass _ _ _ _ (λ n. n now.fit) (subst₂ (λ t h. First (on_tables t h r) 0) (sym now.tables_are) (sym (kept s))
       (back_granted (tables_of b) b.rights w s.sound (first_without _ _ _ _ passed.0 d.numbered) free right)))))) in
       let made = again.done zero in
-      let shape = (first_done (commandRefusals next r) refl (subst (First (commandRefusals next r)) zero again.numbered)).1.0 in (
+      let shape = (first_done (command_refusals next r) refl (subst (First (command_refusals next r)) zero again.numbered)).1.0 in (
         zero,
         board_stable last b (λ k. passed.0 (λ s. k (one_board made.fit s
             (made.tables_are ∙ ap (λ t. after t r) now.tables_are ∙ taken_back w (tables_of b) s.sound.shaped free)
@@ -218,7 +218,7 @@ idle : {b next : Board} {c : Command} {answer : Answer} → Decided b c answer n
     → (SoundBoard b → (Malformed c → ⊥) → (after (tables_of b) c ≡ tables_of b) × (rights_after c b.rights ≡ b.rights)) → next ≡ b
 idle {b} {next} {c} {answer} d same = dite (ℕ_discrete answer.number 0)
     (λ z.
-    let passed = first_done (commandRefusals b c) refl (subst (First (commandRefusals b c)) z d.numbered) in
+    let passed = first_done (command_refusals b c) refl (subst (First (command_refusals b c)) z d.numbered) in
     let made = d.done z in
     board_stable next b (λ k. passed.0 (λ s. let e = same s passed.1.0 in k (one_board made.fit s (made.tables_are ∙ e.0) (made.rights_are ∙ e.1)))))
     (λ n. d.refused n)
@@ -235,7 +235,7 @@ pub same_kind_done : {b next : Board} {c : Command} {answer : Answer} → Decide
     → Passed (before (Derives (tables_of b)) (Scope (tables_of b)) (tables_of b) b.rights c) → c.code ≡ 5 → edge_kind (tables_of b) c ≡ c.kind → answer.number ≡ 0
 same_kind_done {b} {c = c} {answer = answer} d s passed e same =
     let first = before (Derives (tables_of b)) (Scope (tables_of b)) (tables_of b) b.rights c in
-    first_unique (commandRefusals b c) answer.number 0 d.numbered
+    first_unique (command_refusals b c) answer.number 0 d.numbered
     (pass _ _ _ _ (λ k. k s) (first_next first (afterwards (after (tables_of b) c) c) 0 passed
     (subst (λ (t : Tables). First (afterwards t c) 0) (sym (idle_change (tables_of b) c s.sound.shaped e same))
     (sound_passes (tables_of b) c s.sound (λ k. absurd (omega arith))))))
@@ -276,7 +276,7 @@ pub only_rights : {b next : Board} {c : Command} {answer : Answer} → Decided b
     → next ≡ board_of b.live b.i b.a b.derives b.derivers b.manager next.rights
 only_rights {b} {next} {c} {answer} d h = dite (ℕ_discrete answer.number 0)
     (λ z.
-    let passed = first_done (commandRefusals b c) refl (subst (First (commandRefusals b c)) z d.numbered) in
+    let passed = first_done (command_refusals b c) refl (subst (First (command_refusals b c)) z d.numbered) in
     let made = d.done z in
     board_stable next _ (λ k. passed.0 (λ s.
     let same : tables_of next ≡ tables_of b = made.tables_are ∙ tables_stay (tables_of b) c s.sound.shaped h in
@@ -330,7 +330,7 @@ module _ (f : List ℕ) where
   pub one_count_of_steps_on_file : (r : ℕ) {m n j k : ℕ} → StepsOnFile f r m j → StepsOnFile f r n k → (m ≡ n) × (j ≡ k)
   one_count_of_steps_on_file = steps_file_unique f
 
-  pub one_stretch : (file-at : ℕ × ℕ) (role : ℕ) {x y : List ℕ} {p q : ℕ × ℕ} → StretchOf f file-at role x p → StretchOf f file-at role y q → (x ≡ y) × (p ≡ q)
+  pub one_stretch : (file_at : ℕ × ℕ) (role : ℕ) {x y : List ℕ} {p q : ℕ × ℕ} → StretchOf f file_at role x p → StretchOf f file_at role y q → (x ≡ y) × (p ≡ q)
   one_stretch = stretch_unique f
 
 pub one_file_command : {f : List ℕ} {c : Command} {entry exit other : List ℕ} {p q : Place} {m n : Answer} {k l : ℕ}

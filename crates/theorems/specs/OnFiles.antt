@@ -4,7 +4,7 @@ use Rattle.hierarchy.specs.First.{Among}
 use Rattle.board.specs.declared.Board.{Board}
 use Rattle.board.specs.declared.Command.{Command}
 use Rattle.board.specs.declared.answers.Answer.{Answer}
-use Rattle.commands.specs.Commands.{refusals as commandRefusals}
+use Rattle.commands.specs.Commands.{refusals as command_refusals}
 use Rattle.boardfile.specs.Answers.{refusals, ReadAnswer, CommandAnswer}
 use Rattle.boardfile.specs.declared.change.Place.{Place}
 
@@ -12,7 +12,7 @@ use Rattle.boardfile.specs.declared.change.Place.{Place}
 abbrev pub Refused : List ℕ → Command → ℕ → Type 0
 Refused f c number =
     Among number (refusals f)
-    ⊎ ((b : Board) × ReadAnswer f 0 b × (Among number (commandRefusals b c) ⊎ (number ≡ 12)))
+    ⊎ ((b : Board) × ReadAnswer f 0 b × (Among number (command_refusals b c) ⊎ (number ≡ 12)))
 
 -- `Chain f commands g`: each of the commands was done, the first on the file f, each other one on the file that the one before it left at
 -- the start of its buffer, and g is the last file. What was refused in between left no file, and isn't in the chain.
