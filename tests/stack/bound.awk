@@ -20,10 +20,10 @@
 BEGIN {
     # Functions that have no body here, and what they take below their return address. Painted on x86-64 with glibc 2.36 and 2.39,
     # memcpy, memmove and memset took none, nor with the newer instructions of the processor masked; the system calls up to 104 (open),
-    # what allocates up to 456, __sysv_signal 664, strerror_r up to 2,224.
+    # __sysv_signal 664, strerror_r up to 2,224.
     allow("library program", 64, "memcpy memset")
-    allow("program", 1024, "close fchmod fchown fdatasync flock fstat fsync ftruncate lseek memmove nanosleep open read readlink rename statx unlink write")
-    allow("program", 1024, "malloc realloc free __errno_location __sysv_signal __write __x86_get_cpuid_feature_leaf")
+    allow("program", 1024, "close fchmod fchown fdatasync flock fstat fsync ftruncate memmove nanosleep open read readlink rename statx unlink write")
+    allow("program", 1024, "__errno_location __sysv_signal __write __x86_get_cpuid_feature_leaf")
     allow("program", 4096, "__xpg_strerror_r")
 
     RED_ZONE = 128 # that much below the stack pointer a function may use by the x86-64 convention
