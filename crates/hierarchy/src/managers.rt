@@ -5,7 +5,7 @@ ghost use Rattle.hierarchy.specs.Tables.{Tables};
 ghost use Rattle.hierarchy.specs.Views.{manager_at};
 ghost use Rattle.hierarchy.specs.Engine.{Above, AdminsOf, NearestIs, Orderly, Managers};
 
-use sets::{Pick, but_lowest, common, highest, lowest, union, without};
+use sets::{but_lowest, common, highest, lowest, union, without};
 
 // what stands for no line manager: it is no role
 const NONE: u8 = 64;
@@ -18,7 +18,7 @@ fn administrators_of<'v>(down: &'v [u64; 64], up: &'v [u64; 64], r: usize) -> u6
     let mut found = without(up[r], r);
     let mut rest = up[r];
     loop {
-        let Pick::Role(x) = lowest(rest) else {
+        let Some(x) = lowest(rest) else {
             return found;
         };
         found = common(found, union(up[x], down[x]));
@@ -34,7 +34,7 @@ fn nearest(down: &[u64; 64], administrators: u64) -> u8
     let mut found = NONE;
     let mut left = administrators;
     loop {
-        let Pick::Role(m) = highest(left) else {
+        let Some(m) = highest(left) else {
             return found;
         };
         found = m as u8;
@@ -61,7 +61,7 @@ pub(crate) fn fill_managers<'v>(
     clear(manager);
     let mut rest = live;
     loop {
-        let Pick::Role(r) = lowest(rest) else {
+        let Some(r) = lowest(rest) else {
             return;
         };
         manager[r] = nearest(down, administrators_of(down, up, r));
@@ -76,7 +76,7 @@ pub(crate) fn all_managed(live: u64, manager: &[u8; 64]) -> bool
 {
     let mut rest = without(live, 0);
     loop {
-        let Pick::Role(r) = lowest(rest) else {
+        let Some(r) = lowest(rest) else {
             return true;
         };
         if manager[r] == NONE {

@@ -6,7 +6,7 @@ ghost use Rattle.hierarchy.specs.Views.{Turned};
 ghost use Rattle.hierarchy.specs.Engine.{InRows, RowSettled, SoFar, Ready, Finished, Starts, Descended, Ordered, FilledDown, Marked};
 
 use crate::shape::whole_row;
-use sets::{Pick, but_lowest, has, lowest, minus, single, union, with, within, without};
+use sets::{but_lowest, has, lowest, minus, roles_of, single, union, with, within, without};
 
 // The union of the rows of the roles of s.
 fn rows(table: &[u64; 64], s: u64) -> u64
@@ -15,7 +15,7 @@ fn rows(table: &[u64; 64], s: u64) -> u64
     let mut sum: u64 = 0;
     let mut rest = s;
     loop {
-        let Pick::Role(y) = lowest(rest) else {
+        let Some(y) = lowest(rest) else {
             return sum;
         };
         sum = union(sum, table[y]);
@@ -80,7 +80,7 @@ fn descend<'t>(
     loop {
         let x = path[above] as usize;
         let waiting = minus(union(i[x], a[x]), done);
-        if let Pick::Role(y) = lowest(waiting) {
+        if let Some(y) = lowest(waiting) {
             if !within(waiting, fresh) {
                 return done;
             }
@@ -111,7 +111,7 @@ fn order<'t>(
 {
     let mut done: u64 = 0;
     loop {
-        let Pick::Role(root) = lowest(minus(live, done)) else {
+        let Some(root) = lowest(minus(live, done)) else {
             return true;
         };
         done = descend(live, i, a, by_i, down, path, done, root);
@@ -126,13 +126,8 @@ fn mark(up: &mut [u64; 64], s: u64, x: usize)
     requires { (x < 64) × (length up.old ≡ 64) }
     ensures { Marked up.old s x up.new }
 {
-    let mut rest = s;
-    loop {
-        let Pick::Role(y) = lowest(rest) else {
-            return;
-        };
+    for y in roles_of(s) {
         up[y] = with(up[y], x);
-        rest = but_lowest(rest);
     }
 }
 
@@ -162,7 +157,7 @@ pub(crate) fn fill_up(live: u64, down: &[u64; 64], up: &mut [u64; 64])
     blank(up);
     let mut rest = live;
     loop {
-        let Pick::Role(x) = lowest(rest) else {
+        let Some(x) = lowest(rest) else {
             return;
         };
         mark(up, down[x], x);

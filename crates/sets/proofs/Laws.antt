@@ -13,8 +13,7 @@ use lib.Bits.{and_mask, bit_and}
 use lib.Count.{ones, ones_step, count_trailing_zeros, under, count_leading_zeros, leading_top}
 use borrow.Author.Tests.{lt-ltb, le-ltb, eqb-true, eqb-false, eq-eqb}
 use Rattle.sets.specs.Sets.{bit, ◌is_in◌, ◌are_in◌, same?, num, set_of, LowestRole, NoRole, Lowest, ButLowest, HighestRole, Highest}
-use Rattle.sets.specs.declared.Pick.{Pick}
-use Rattle.sets.specs.declared.Pick.TheVariants.{Role, Nobody}
+use Rattle.std.specs.Prelude.{Option, Some, None}
 use Rattle.sets.proofs.Bools.{true_or_false, and_left, and_both, lt_or_ge, false_no, not_so, iff_same}
 use Rattle.sets.proofs.Digits.{two_pos, bit_low, bit_high, bit_zero, bit_out, bit_of_and, bit_not, bit_pow, low_num, half_lt, digits_fit, bit_digits}
 
@@ -129,19 +128,19 @@ lowest_lt s p h = bit_lt 64 h (bit_lowest 64 s p h)
 pub lowest_is : (s : ℕ) → 0 < s → s < 2 ^ 64 → LowestRole s (count_trailing_zeros 64 s)
 lowest_is s p h = record { role = lowest_lt s p h; member = bit_lowest 64 s p h; least = λ x e. lowest_least 64 s x e }
 
-pub lowest_unique : (s : ℕ) (p q : Pick) → Lowest s p → Lowest s q → p ≡ q
-lowest_unique s (Role m) (Role n) h g = ap Role (le_antisymm (h.least n g.member) (g.least m h.member))
-lowest_unique s (Role m) Nobody h g = absurd (false_no (g.none m) h.member)
-lowest_unique s Nobody (Role n) h g = absurd (false_no (h.none n) g.member)
-lowest_unique s Nobody Nobody h g = refl
+pub lowest_unique : (s : ℕ) (p q : Option ℕ) → Lowest s p → Lowest s q → p ≡ q
+lowest_unique s (Some m) (Some n) h g = ap Some (le_antisymm (h.least n g.member) (g.least m h.member))
+lowest_unique s (Some m) None h g = absurd (false_no (g.none m) h.member)
+lowest_unique s None (Some n) h g = absurd (false_no (h.none n) g.member)
+lowest_unique s None None h g = refl
 
 -- ---- the highest role
 
-pub highest_unique : (s : ℕ) (p q : Pick) → Highest s p → Highest s q → p ≡ q
-highest_unique s (Role m) (Role n) h g = ap Role (le_antisymm (g.most m h.member) (h.most n g.member))
-highest_unique s (Role m) Nobody h g = absurd (false_no (g.none m) h.member)
-highest_unique s Nobody (Role n) h g = absurd (false_no (h.none n) g.member)
-highest_unique s Nobody Nobody h g = refl
+pub highest_unique : (s : ℕ) (p q : Option ℕ) → Highest s p → Highest s q → p ≡ q
+highest_unique s (Some m) (Some n) h g = ap Some (le_antisymm (g.most m h.member) (h.most n g.member))
+highest_unique s (Some m) None h g = absurd (false_no (g.none m) h.member)
+highest_unique s None (Some n) h g = absurd (false_no (h.none n) g.member)
+highest_unique s None None h g = refl
 
 -- a number between 2 ^ r and 2 ^ (r + 1) has digit r, and none above
 bit_top : (s r : ℕ) → 2 ^ r ≤ s → s < 2 ^ suc r → r is_in s

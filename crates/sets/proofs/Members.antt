@@ -5,8 +5,8 @@ use mathlib.Core.Logic.{◌⊎◌, inl, inr, ⊎_elim}
 use Prim.Native.Nat.{ℕ, ◌<◌}
 use lib.Count.{ones}
 use Rattle.sets.specs.Sets.{bit, ◌is_in◌, ◌are_in◌, same?, LowestRole, NoRole, Lowest, ButLowest}
-use Rattle.sets.specs.declared.Pick.{Pick}
-use Rattle.sets.specs.declared.Pick.TheVariants.{Role, Nobody}
+pub use Rattle.sets.specs.Sets.{Taken}
+use Rattle.std.specs.Prelude.{Option, Some, None}
 use Rattle.sets.proofs.Bools.{true_or_false, and_left, and_both}
 use Rattle.sets.proofs.Laws.{same_eq, ones_less}
 
@@ -38,10 +38,6 @@ module _ {rest x rest' : ℕ} (t : Drawn rest x rest') where
       (true_or_false (same? x y))
 
 -- the same where x is the lowest role of rest
-pub record Taken (rest x rest' : ℕ) : Type 0 where
-  pub lowest : LowestRole rest x
-  pub rest_is : (y : ℕ) → bit rest' y ≡ (bit rest y && not (same? x y))
-
 module _ {rest x rest' : ℕ} (t : Taken rest x rest') where
   pub drawn : Drawn rest x rest'
   drawn = record { role = t.lowest.role; member = t.lowest.member; rest_is = t.rest_is }
@@ -59,8 +55,8 @@ pub taken_by : {rest x rest' : ℕ} → LowestRole rest x → ButLowest rest res
 taken_by {x = x} l b = record { lowest = l; rest_is = b.rest x l }
 
 -- what the answer of `lowest` says, by its two cases
-pub picked : {s r : ℕ} {p : Pick} → p ≡ Role r → Lowest s p → LowestRole s r
+pub picked : {s r : ℕ} {p : Option ℕ} → p ≡ Some r → Lowest s p → LowestRole s r
 picked {s} e l = subst (Lowest s) e l
 
-pub nobody : {s : ℕ} {p : Pick} → p ≡ Nobody → Lowest s p → NoRole s
+pub nobody : {s : ℕ} {p : Option ℕ} → p ≡ None → Lowest s p → NoRole s
 nobody {s} e l = subst (Lowest s) e l

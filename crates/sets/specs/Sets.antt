@@ -1,7 +1,5 @@
 -- Document 01 numbers roles from 0 to 63, so a set of roles is one 64-bit number: role r is in it when its binary digit r is 1.
-use Rattle.std.specs.Prelude.{◌≡◌, Bool, true, false, not, ◌&&◌, ℕ, zero, suc, ◌+◌, ◌*◌, ◌/◌, ◌%◌, ◌^◌, ◌≤◌, ◌<◌, eqb, ltb}
-use Rattle.sets.specs.declared.Pick.{Pick}
-use Rattle.sets.specs.declared.Pick.TheVariants.{Role, Nobody}
+use Rattle.std.specs.Prelude.{Option, Some, None, ◌≡◌, Bool, true, false, not, ◌&&◌, ℕ, zero, suc, ◌+◌, ◌*◌, ◌/◌, ◌%◌, ◌^◌, ◌≤◌, ◌<◌, eqb, ltb}
 
 -- whether role r is in the set s
 unfoldable pub bit : ℕ → ℕ → Bool
@@ -45,14 +43,24 @@ pub record NoRole (s : ℕ) : Type 0 where
   pub none : (x : ℕ) → bit s x ≡ false
 
 -- the lowest role of s, or nobody where s has none
-abbrev pub Lowest : ℕ → Pick → Type 0
-Lowest s (Role r) = LowestRole s r
-Lowest s Nobody = NoRole s
+abbrev pub Lowest : ℕ → Option ℕ → Type 0
+Lowest s (Some r) = LowestRole s r
+Lowest s None = NoRole s
 
 -- t is s but its lowest role
 pub record ButLowest (s t : ℕ) : Type 0 where
   pub rest : (r : ℕ) → LowestRole s r → (x : ℕ) → bit t x ≡ (bit s x && not (same? r x))
   pub none : NoRole s → NoRole t
+
+-- x is the lowest role of s, and t is s without it
+pub record Taken (s x t : ℕ) : Type 0 where
+  pub lowest : LowestRole s x
+  pub rest_is : (y : ℕ) → bit t y ≡ (bit s y && not (same? x y))
+
+-- one turn of a loop over s: the lowest role is given and t is left, or s has no role
+abbrev pub Turn : ℕ → Option ℕ → ℕ → Type 0
+Turn s (Some r) t = Taken s r t
+Turn s None t = NoRole s
 
 -- r is the highest role of s
 pub record HighestRole (s r : ℕ) : Type 0 where
@@ -61,6 +69,6 @@ pub record HighestRole (s r : ℕ) : Type 0 where
   pub most : (x : ℕ) → x is_in s → x ≤ r
 
 -- the highest role of s, or nobody where s has none
-abbrev pub Highest : ℕ → Pick → Type 0
-Highest s (Role r) = HighestRole s r
-Highest s Nobody = NoRole s
+abbrev pub Highest : ℕ → Option ℕ → Type 0
+Highest s (Some r) = HighestRole s r
+Highest s None = NoRole s

@@ -6,14 +6,8 @@
 
 ghost use Rattle.std.specs.Prelude.{◌≡◌, true, false, not, ◌&&◌, ◌||◌, ◌↔◌, ℕ};
 ghost use Rattle.std.specs.Int.Count.{ones};
-ghost use Rattle.sets.specs.Sets.{bit, same?, ◌are_in◌, Lowest, ButLowest, Highest};
-
-// One role of several, or nobody: a caller has to meet both.
-#[derive(Clone, Copy)]
-pub enum Pick {
-    Role(usize),
-    Nobody,
-}
+ghost use Rattle.std.specs.Iterator.{at_most};
+ghost use Rattle.sets.specs.Sets.{bit, same?, ◌are_in◌, Lowest, ButLowest, Highest, Turn};
 
 // Whether role r is in s.
 pub fn has(s: u64, r: usize) -> bool
@@ -78,13 +72,13 @@ pub fn within(s: u64, t: u64) -> bool
 }
 
 // The lowest role of s.
-pub fn lowest(s: u64) -> Pick
+pub fn lowest(s: u64) -> Option<usize>
     ensures { Lowest s result }
 {
     if s == 0 {
-        return Pick::Nobody;
+        return None;
     }
-    Pick::Role(u64::trailing_zeros(s) as usize)
+    Some(u64::trailing_zeros(s) as usize)
 }
 
 // The roles of s but the lowest: what a loop over s goes on with, without waiting for the lowest to be named.
@@ -98,13 +92,40 @@ pub fn but_lowest(s: u64) -> u64
 }
 
 // The highest role of s.
-pub fn highest(s: u64) -> Pick
+pub fn highest(s: u64) -> Option<usize>
     ensures { Highest s result }
 {
     if s == 0 {
-        return Pick::Nobody;
+        return None;
     }
-    Pick::Role(63 - u64::leading_zeros(s) as usize)
+    Some(63 - u64::leading_zeros(s) as usize)
+}
+
+// The roles of a set one by one, the lowest first: what a `for` over a set goes through.
+#[derive(Clone, Copy)]
+pub struct Roles {
+    pub left: u64,
+}
+
+// The roles of s.
+pub fn roles_of(s: u64) -> Roles
+    ensures { result.left ≡ s }
+{
+    Roles { left: s }
+}
+
+impl Iterator for Roles {
+    type Item = usize;
+
+    ghost next_gives = { λ from r to. Turn from.left r to.left };
+
+    ghost remaining = { λ from. at_most (ones from.left) };
+
+    fn next(&mut self) -> Option<usize> {
+        let first = lowest(self.left)?;
+        self.left = but_lowest(self.left);
+        Some(first)
+    }
 }
 
 // How many roles s has.

@@ -1,9 +1,5 @@
-use lib.Count.{ones}
 use Rattle.hierarchy.proofs.Rows.{Marking}
 use Rattle.hierarchy.proofs.views.mark.Given as goal
 
 abbrev pub invariant-loop-y : goal.invariant-loop-y
-invariant-loop-y l = Marking l.initial.up l.s l.x l.up l.rest
-
-abbrev pub decreases-loop-y : goal.decreases-loop-y
-decreases-loop-y l = ones l.rest
+invariant-loop-y l = Marking l.initial.up l.s l.x l.up l.y-iterator.left
