@@ -1,11 +1,13 @@
 -- The values that are worked out once a board and kept with it: row x of `down` is the set of what x derives, row y of `up` the set of
 -- what derives y, and the line managers. The words of scope again, read off the two tables; `ViewLaws` and `Bars` in
 -- `Rattle.hierarchy.proofs` say that they are the same.
-use Rattle.std.specs.Prelude.{◌≡◌, cond, ◌≢◌, ◌⊎◌, ◌↔◌, List, [], ◌∷◌, ℕ, zero, suc, ◌≤◌, eqb, get_or, length, replicate}
+use Rattle.std.specs.Prelude.{Result, Ok, Err, ◌≡◌, cond, ◌≢◌, ◌⊎◌, ◌↔◌, List, [], ◌∷◌, ℕ, zero, suc, ◌≤◌, eqb, get_or, length, replicate}
 use Rattle.sets.specs.Sets.{◌is_in◌}
 use Rattle.hierarchy.specs.Tables.{Tables, row, Live, kind}
 use Rattle.hierarchy.specs.Words.{Reaches, Derives, LineManager, Managed}
 use Rattle.hierarchy.specs.First.{First}
+use Rattle.hierarchy.specs.declared.working.Fault.{Fault}
+use Rattle.hierarchy.specs.declared.working.Fault.TheVariants.{Loops, Unmanaged}
 
 -- down and up are the views of t, a row for each role
 pub record AreViews (t : Tables) (down up : List ℕ) : Type 0 where
@@ -86,6 +88,12 @@ pub record AreManagers (t : Tables) (manager : List ℕ) : Type 0 where
 pub record RightValues (t : Tables) (derives derivers manager : List ℕ) : Type 0 where
   pub views : AreViews t derives derivers
   pub managers : AreManagers t manager
+
+-- the number of what was found wrong, 0 where nothing was
+abbrev pub fault_number : {A : Type 0} → Result A Fault → ℕ
+fault_number (Ok _) = 0
+fault_number (Err Loops) = 7
+fault_number (Err Unmanaged) = 9
 
 -- Worked out for tables: 7 where the live roles are not in order, 9 where one but 0 has no administrator. Unless it is 7 the three are
 -- right. With 7 they are blank: nobody derives, is derived or has a line manager.

@@ -1,33 +1,49 @@
 // All that a board keeps of its tables, worked out in one call.
-ghost use Rattle.hierarchy.specs.Tables.{tables};
-ghost use Rattle.hierarchy.specs.Views.{WorkedOut};
+ghost use Rattle.hierarchy.specs.Views.{WorkedOut, fault_number};
 
 use crate::managers::{all_managed, clear, fill_managers};
+use crate::tables::Tables;
 use crate::views::{blank, fill_down, fill_up};
 
-// What each live role derives, what derives it, and its line manager: 0 where every live role but 0 has one; 9 where some has none; 7
-// where the live roles are not in order, and then all three are blank. `derivers` and `manager` serve as room to work in until they are
-// filled, so that nobody who has room for the values needs more.
-pub fn work_out<'t>(
-    live: u64,
-    i: &'t [u64; 64],
-    a: &'t [u64; 64],
-    derives: &mut [u64; 64],
-    derivers: &mut [u64; 64],
-    manager: &mut [u8; 64],
-) -> u8
-    ensures { WorkedOut (tables live i.now a.now) result derives.new derivers.new manager.new }
+// Row x of `derives` is the set of what role x derives, row x of `derivers` of what derives x, and `manager` has the line managers, with 64
+// for none.
+#[repr(C)]
+#[derive(Clone, Copy, PartialEq, Eq)]
+pub struct Kept {
+    pub derives: [u64; 64],
+    pub derivers: [u64; 64],
+    pub manager: [u8; 64],
+}
+
+// Why tables are no sound board's: the live roles are not in order; some live role but 0 has no line manager.
+#[derive(Clone, Copy, PartialEq, Eq)]
+pub enum Fault {
+    Loops,
+    Unmanaged,
+}
+
+// What each live role derives, what derives it, and its line manager. Where the live roles are not in order all three are blank. `derivers`
+// and `manager` serve as room to work in until they are filled, so that nobody who has room for the values needs more.
+pub fn work_out(t: &Tables, kept: &mut Kept) -> Result<(), Fault>
+    ensures { WorkedOut t.now (fault_number result) kept.new.derives kept.new.derivers kept.new.manager }
 {
-    if !fill_down(live, i, a, derives, derivers, manager) {
-        blank(derives);
-        blank(derivers);
-        clear(manager);
-        return 7;
+    if !fill_down(
+        t.live,
+        &t.i,
+        &t.a,
+        &mut kept.derives,
+        &mut kept.derivers,
+        &mut kept.manager,
+    ) {
+        blank(&mut kept.derives);
+        blank(&mut kept.derivers);
+        clear(&mut kept.manager);
+        return Err(Fault::Loops);
     }
-    fill_up(live, derives, derivers);
-    fill_managers(live, derives, derivers, manager);
-    if all_managed(live, manager) {
-        return 0;
+    fill_up(t.live, &kept.derives, &mut kept.derivers);
+    fill_managers(t.live, &kept.derives, &kept.derivers, &mut kept.manager);
+    if !all_managed(t.live, &kept.manager) {
+        return Err(Fault::Unmanaged);
     }
-    9
+    Ok(())
 }

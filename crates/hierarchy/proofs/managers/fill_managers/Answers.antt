@@ -12,13 +12,13 @@ pub returns-in_default : goal.returns-in_default
 returns-in_default c = fill_end (nobody c.in_default.is c.lowest.ensures) c.loop-r.invariant
 
 pub administrators_of-requires : goal.administrators_of-requires
-administrators_of-requires c = (picked c.in-Role.is c.lowest.ensures).role
+administrators_of-requires c = (picked c.in-Some.is c.lowest.ensures).role
 
 pub bounds-manager-r : goal.bounds-manager-r
-bounds-manager-r c = (picked c.in-Role.is c.lowest.ensures).role
+bounds-manager-r c = (picked c.in-Some.is c.lowest.ensures).role
 
 pub loop-r-smaller : goal.loop-r-smaller
-loop-r-smaller c = taken_less (let taken_here : Taken c.loop-r.rest c.in-Role.r c.but_lowest-rest.result = taken_by (picked c.in-Role.is c.lowest.ensures) c.but_lowest-rest.ensures in taken_here)
+loop-r-smaller c = taken_less (let taken_here : Taken c.loop-r.rest c.in-Some.r c.but_lowest-rest.result = taken_by (picked c.in-Some.is c.lowest.ensures) c.but_lowest-rest.ensures in taken_here)
 
 pub loop-r-preserved : goal.loop-r-preserved
-loop-r-preserved c = fill_turn c.administrators_of.result c.nearest.result (let taken_here : Taken c.loop-r.rest c.in-Role.r c.but_lowest-rest.result = taken_by (picked c.in-Role.is c.lowest.ensures) c.but_lowest-rest.ensures in taken_here) c.loop-r.invariant c.administrators_of.ensures c.nearest.ensures
+loop-r-preserved c = fill_turn c.administrators_of.result c.nearest.result (let taken_here : Taken c.loop-r.rest c.in-Some.r c.but_lowest-rest.result = taken_by (picked c.in-Some.is c.lowest.ensures) c.but_lowest-rest.ensures in taken_here) c.loop-r.invariant c.administrators_of.ensures c.nearest.ensures

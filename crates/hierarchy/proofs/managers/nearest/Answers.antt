@@ -2,13 +2,13 @@ use mathlib.Core.Path.{◌≡◌, subst}
 use Prim.Native.Nat.{ℕ}
 use native.Mathlib.Omega.{arith}
 use Rattle.sets.specs.Sets.{HighestRole, Highest}
-use Rattle.sets.specs.declared.Pick.{Pick}
-use Rattle.sets.specs.declared.Pick.TheVariants.{Role}
+use Rattle.std.specs.Prelude.{Option}
+use Rattle.std.specs.Prelude.{Some, None}
 use Rattle.hierarchy.proofs.Managing.{near_start, near_turn, near_less, near_end}
 use Rattle.hierarchy.proofs.managers.nearest.Goals as goal
 
 -- what the answer of `highest` says where it is a role
-top : {s m : ℕ} {p : Pick} → p ≡ Role m → Highest s p → HighestRole s m
+top : {s m : ℕ} {p : Option ℕ} → p ≡ Some m → Highest s p → HighestRole s m
 top {s} e h = subst (Highest s) e h
 
 pub loop-m-init : goal.loop-m-init
@@ -18,16 +18,16 @@ pub returns-in_default : goal.returns-in_default
 returns-in_default c = near_end (subst (Highest _) c.in_default.is c.highest.ensures) c.loop-m.invariant
 
 pub overflow_cast-found : goal.overflow_cast-found
-overflow_cast-found c = let l = top c.in-Role.is c.highest.ensures in omega arith
+overflow_cast-found c = let l = top c.in-Some.is c.highest.ensures in omega arith
 
 pub offset_bounds-down-m : goal.offset_bounds-down-m
-offset_bounds-down-m c = let l = top c.in-Role.is c.highest.ensures in omega arith
+offset_bounds-down-m c = let l = top c.in-Some.is c.highest.ensures in omega arith
 
 pub bounds-down-m : goal.bounds-down-m
-bounds-down-m c = (top c.in-Role.is c.highest.ensures).role
+bounds-down-m c = (top c.in-Some.is c.highest.ensures).role
 
 pub loop-m-smaller : goal.loop-m-smaller
-loop-m-smaller c = let l = top c.in-Role.is c.highest.ensures in near_less c.without.result c.common-left.result l.role l.member c.loop-m.invariant c.without.ensures c.common-left.ensures
+loop-m-smaller c = let l = top c.in-Some.is c.highest.ensures in near_less c.without.result c.common-left.result l.role l.member c.loop-m.invariant c.without.ensures c.common-left.ensures
 
 pub loop-m-preserved : goal.loop-m-preserved
-loop-m-preserved c = let l = top c.in-Role.is c.highest.ensures in near_turn c.without.result c.common-left.result l.role l.member c.loop-m.invariant c.without.ensures c.common-left.ensures
+loop-m-preserved c = let l = top c.in-Some.is c.highest.ensures in near_turn c.without.result c.common-left.result l.role l.member c.loop-m.invariant c.without.ensures c.common-left.ensures

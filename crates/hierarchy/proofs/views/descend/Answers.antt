@@ -31,19 +31,19 @@ pub returns-then-not-within : goal.returns-then-not-within
 returns-then-not-within c = walk_stuck c.loop-y.invariant c.union.result c.minus-waiting.result c.union.ensures c.minus-waiting.ensures (λ p. false_no c.if-not-within.true (c.within.ensures.1 p))
 
 pub overflow_add-above : goal.overflow_add-above
-overflow_add-above c = record { fits = omega (arith, drawn_less (let drawn_here : Drawn c.loop-y.fresh c.in-Role.y c.without-fresh-in-Role.result = let l = picked c.in-Role.is c.lowest.ensures in record { role = l.role; member = c.within.ensures.0 c.if-not-within.false _ l.member; rest_is = c.without-fresh-in-Role.ensures } in drawn_here), c.loop-y.invariant.room) }
+overflow_add-above c = record { fits = omega (arith, drawn_less (let drawn_here : Drawn c.loop-y.fresh c.in-Some.y c.without-fresh-in-Some.result = let l = picked c.in-Some.is c.lowest.ensures in record { role = l.role; member = c.within.ensures.0 c.if-not-within.false _ l.member; rest_is = c.without-fresh-in-Some.ensures } in drawn_here), c.loop-y.invariant.room) }
 
-pub overflow_cast-path-in-Role : goal.overflow_cast-path-in-Role
-overflow_cast-path-in-Role c = let l = picked c.in-Role.is c.lowest.ensures in omega arith
+pub overflow_cast-path-in-Some : goal.overflow_cast-path-in-Some
+overflow_cast-path-in-Some c = let l = picked c.in-Some.is c.lowest.ensures in omega arith
 
-pub bounds-path-above-in-Role : goal.bounds-path-above-in-Role
-bounds-path-above-in-Role c = omega (arith, drawn_less (let drawn_here : Drawn c.loop-y.fresh c.in-Role.y c.without-fresh-in-Role.result = let l = picked c.in-Role.is c.lowest.ensures in record { role = l.role; member = c.within.ensures.0 c.if-not-within.false _ l.member; rest_is = c.without-fresh-in-Role.ensures } in drawn_here), c.loop-y.invariant.room)
+pub bounds-path-above-in-Some : goal.bounds-path-above-in-Some
+bounds-path-above-in-Some c = omega (arith, drawn_less (let drawn_here : Drawn c.loop-y.fresh c.in-Some.y c.without-fresh-in-Some.result = let l = picked c.in-Some.is c.lowest.ensures in record { role = l.role; member = c.within.ensures.0 c.if-not-within.false _ l.member; rest_is = c.without-fresh-in-Some.ensures } in drawn_here), c.loop-y.invariant.room)
 
-pub loop-y-smaller-in-Role : goal.loop-y-smaller-in-Role
-loop-y-smaller-in-Role c = omega (arith, drawn_less (let drawn_here : Drawn c.loop-y.fresh c.in-Role.y c.without-fresh-in-Role.result = let l = picked c.in-Role.is c.lowest.ensures in record { role = l.role; member = c.within.ensures.0 c.if-not-within.false _ l.member; rest_is = c.without-fresh-in-Role.ensures } in drawn_here))
+pub loop-y-smaller-in-Some : goal.loop-y-smaller-in-Some
+loop-y-smaller-in-Some c = omega (arith, drawn_less (let drawn_here : Drawn c.loop-y.fresh c.in-Some.y c.without-fresh-in-Some.result = let l = picked c.in-Some.is c.lowest.ensures in record { role = l.role; member = c.within.ensures.0 c.if-not-within.false _ l.member; rest_is = c.without-fresh-in-Some.ensures } in drawn_here))
 
-pub loop-y-preserved-in-Role : goal.loop-y-preserved-in-Role
-loop-y-preserved-in-Role c = simp unary_clauses (walk_down c.loop-y.invariant c.union.result c.minus-waiting.result c.union.ensures c.minus-waiting.ensures (picked c.in-Role.is c.lowest.ensures).member (let drawn_here : Drawn c.loop-y.fresh c.in-Role.y c.without-fresh-in-Role.result = let l = picked c.in-Role.is c.lowest.ensures in record { role = l.role; member = c.within.ensures.0 c.if-not-within.false _ l.member; rest_is = c.without-fresh-in-Role.ensures } in drawn_here))
+pub loop-y-preserved-in-Some : goal.loop-y-preserved-in-Some
+loop-y-preserved-in-Some c = simp unary_clauses (walk_down c.loop-y.invariant c.union.result c.minus-waiting.result c.union.ensures c.minus-waiting.ensures (picked c.in-Some.is c.lowest.ensures).member (let drawn_here : Drawn c.loop-y.fresh c.in-Some.y c.without-fresh-in-Some.result = let l = picked c.in-Some.is c.lowest.ensures in record { role = l.role; member = c.within.ensures.0 c.if-not-within.false _ l.member; rest_is = c.without-fresh-in-Some.ensures } in drawn_here))
 
 pub finish-done-requires : goal.finish-done-requires
 finish-done-requires c = walk_ready c.loop-y.invariant c.union.result c.minus-waiting.result c.union.ensures c.minus-waiting.ensures (nobody c.in_default.is c.lowest.ensures)

@@ -13,16 +13,16 @@ pub returns-in_default : goal.returns-in_default
 returns-in_default c = turning_end (nobody c.in_default.is c.lowest.ensures) c.loop-x.invariant
 
 pub offset_bounds-down-x : goal.offset_bounds-down-x
-offset_bounds-down-x c = let l = picked c.in-Role.is c.lowest.ensures in omega arith
+offset_bounds-down-x c = let l = picked c.in-Some.is c.lowest.ensures in omega arith
 
 pub bounds-down-x : goal.bounds-down-x
-bounds-down-x c = let l = picked c.in-Role.is c.lowest.ensures in omega arith
+bounds-down-x c = let l = picked c.in-Some.is c.lowest.ensures in omega arith
 
 pub mark-requires : goal.mark-requires
-mark-requires c = ((picked c.in-Role.is c.lowest.ensures).role, c.loop-x.invariant.rows)
+mark-requires c = ((picked c.in-Some.is c.lowest.ensures).role, c.loop-x.invariant.rows)
 
 pub loop-x-smaller : goal.loop-x-smaller
-loop-x-smaller c = taken_less (let taken_here : Taken c.loop-x.rest c.in-Role.x c.but_lowest-rest.result = taken_by (picked c.in-Role.is c.lowest.ensures) c.but_lowest-rest.ensures in taken_here)
+loop-x-smaller c = taken_less (let taken_here : Taken c.loop-x.rest c.in-Some.x c.but_lowest-rest.result = taken_by (picked c.in-Some.is c.lowest.ensures) c.but_lowest-rest.ensures in taken_here)
 
 pub loop-x-preserved : goal.loop-x-preserved
-loop-x-preserved c = turning_turn (let taken_here : Taken c.loop-x.rest c.in-Role.x c.but_lowest-rest.result = taken_by (picked c.in-Role.is c.lowest.ensures) c.but_lowest-rest.ensures in taken_here) c.loop-x.invariant c.mark.ensures
+loop-x-preserved c = turning_turn (let taken_here : Taken c.loop-x.rest c.in-Some.x c.but_lowest-rest.result = taken_by (picked c.in-Some.is c.lowest.ensures) c.but_lowest-rest.ensures in taken_here) c.loop-x.invariant c.mark.ensures

@@ -8,8 +8,8 @@ returns-then-not-fill_down c = out_of_order c.fill_down.ensures c.if-not-fill_do
 pub all_managed-requires : goal.all_managed-requires
 all_managed-requires c = (c.fill_managers.ensures _ (orderly c.fill_down.ensures c.if-not-fill_down.false c.fill_up.ensures)).rows
 
-pub returns-then-all_managed : goal.returns-then-all_managed
-returns-then-all_managed c = all_have_one c.fill_down.ensures c.if-not-fill_down.false c.fill_up.ensures (c.fill_managers.ensures _ (orderly c.fill_down.ensures c.if-not-fill_down.false c.fill_up.ensures)) (c.all_managed.ensures.0 c.if-all_managed.true)
+pub returns-then-not-all_managed : goal.returns-then-not-all_managed
+returns-then-not-all_managed c = one_has_none c.fill_down.ensures c.if-not-fill_down.false c.fill_up.ensures (c.fill_managers.ensures _ (orderly c.fill_down.ensures c.if-not-fill_down.false c.fill_up.ensures)) (λ f. false_no c.if-not-all_managed.true (c.all_managed.ensures.1 f))
 
 pub returns : goal.returns
-returns c = one_has_none c.fill_down.ensures c.if-not-fill_down.false c.fill_up.ensures (c.fill_managers.ensures _ (orderly c.fill_down.ensures c.if-not-fill_down.false c.fill_up.ensures)) (λ f. false_no c.if-all_managed.false (c.all_managed.ensures.1 f))
+returns c = all_have_one c.fill_down.ensures c.if-not-fill_down.false c.fill_up.ensures (c.fill_managers.ensures _ (orderly c.fill_down.ensures c.if-not-fill_down.false c.fill_up.ensures)) (c.all_managed.ensures.0 c.if-not-all_managed.false)
