@@ -5,7 +5,7 @@ ghost use Rattle.hierarchy.specs.Tables.{Tables};
 ghost use Rattle.hierarchy.specs.Views.{manager_at};
 ghost use Rattle.hierarchy.specs.Engine.{Above, AdminsOf, NearestIs, Orderly, Managers};
 
-use sets::{but_lowest, common, highest, lowest, union, without};
+use sets::{common, highest, roles_of, union, without};
 
 // what stands for no line manager: it is no role
 const NONE: u8 = 64;
@@ -16,14 +16,10 @@ fn administrators_of<'v>(down: &'v [u64; 64], up: &'v [u64; 64], r: usize) -> u6
     ensures { (a : ℕ) → (a is_in result) ↔ Above down.now up.now a r }
 {
     let mut found = without(up[r], r);
-    let mut rest = up[r];
-    loop {
-        let Some(x) = lowest(rest) else {
-            return found;
-        };
+    for x in roles_of(up[r]) {
         found = common(found, union(up[x], down[x]));
-        rest = but_lowest(rest);
     }
+    found
 }
 
 // Of the administrators of a role the one that all others derive: from any of them on, the highest number first, it goes to one that this
@@ -33,13 +29,11 @@ fn nearest(down: &[u64; 64], administrators: u64) -> u8
 {
     let mut found = NONE;
     let mut left = administrators;
-    loop {
-        let Some(m) = highest(left) else {
-            return found;
-        };
+    while let Some(m) = highest(left) {
         found = m as u8;
         left = common(without(left, m), down[m]);
     }
+    found
 }
 
 // Nobody has a line manager.
@@ -59,13 +53,8 @@ pub(crate) fn fill_managers<'v>(
     ensures { (t : Tables) → Orderly t live down.now up.now → Managers t manager.new }
 {
     clear(manager);
-    let mut rest = live;
-    loop {
-        let Some(r) = lowest(rest) else {
-            return;
-        };
+    for r in roles_of(live) {
         manager[r] = nearest(down, administrators_of(down, up, r));
-        rest = but_lowest(rest);
     }
 }
 
@@ -74,14 +63,10 @@ pub(crate) fn all_managed(live: u64, manager: &[u8; 64]) -> bool
     requires { length manager.now ≡ 64 }
     ensures { (result ≡ true) ↔ ((r : ℕ) → r is_in live → r ≢ 0 → manager_at manager.now r ≢ 64) }
 {
-    let mut rest = without(live, 0);
-    loop {
-        let Some(r) = lowest(rest) else {
-            return true;
-        };
+    for r in roles_of(without(live, 0)) {
         if manager[r] == NONE {
             return false;
         }
-        rest = but_lowest(rest);
     }
+    true
 }

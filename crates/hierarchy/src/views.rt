@@ -6,21 +6,17 @@ ghost use Rattle.hierarchy.specs.Views.{Turned};
 ghost use Rattle.hierarchy.specs.Engine.{InRows, RowSettled, SoFar, Ready, Finished, Starts, Descended, Ordered, FilledDown, Marked};
 
 use crate::shape::whole_row;
-use sets::{but_lowest, has, lowest, minus, roles_of, single, union, with, within, without};
+use sets::{has, lowest, minus, roles_of, single, union, with, within, without};
 
 // The union of the rows of the roles of s.
 fn rows(table: &[u64; 64], s: u64) -> u64
     ensures { (z : ℕ) → (z is_in result) ↔ InRows table.now s z }
 {
     let mut sum: u64 = 0;
-    let mut rest = s;
-    loop {
-        let Some(y) = lowest(rest) else {
-            return sum;
-        };
+    for y in roles_of(s) {
         sum = union(sum, table[y]);
-        rest = but_lowest(rest);
     }
+    sum
 }
 
 // No row has a member.
@@ -110,15 +106,13 @@ fn order<'t>(
     ensures { Ordered live i.now a.now by_i.new down.new result }
 {
     let mut done: u64 = 0;
-    loop {
-        let Some(root) = lowest(minus(live, done)) else {
-            return true;
-        };
+    while let Some(root) = lowest(minus(live, done)) {
         done = descend(live, i, a, by_i, down, path, done, root);
         if !has(done, root) {
             return false;
         }
     }
+    true
 }
 
 // x goes into the row of each role of s.
@@ -155,12 +149,7 @@ pub(crate) fn fill_up(live: u64, down: &[u64; 64], up: &mut [u64; 64])
     ensures { Turned live down.now up.new }
 {
     blank(up);
-    let mut rest = live;
-    loop {
-        let Some(x) = lowest(rest) else {
-            return;
-        };
+    for x in roles_of(live) {
         mark(up, down[x], x);
-        rest = but_lowest(rest);
     }
 }

@@ -1,11 +1,7 @@
 use mathlib.Core.Logic.{◌≢◌}
-use lib.Count.{ones}
 use Rattle.hierarchy.specs.Views.{manager_at}
 use Rattle.hierarchy.proofs.Managing.{Passing}
 use Rattle.hierarchy.proofs.managers.all_managed.Given as goal
 
 abbrev pub invariant-loop-r : goal.invariant-loop-r
-invariant-loop-r l = Passing (λ r. manager_at l.manager r ≢ 64) l.live l.rest
-
-abbrev pub decreases-loop-r : goal.decreases-loop-r
-decreases-loop-r l = ones l.rest
+invariant-loop-r l = Passing (λ r. manager_at l.manager r ≢ 64) l.live l.r-iterator.left

@@ -1,9 +1,5 @@
-use lib.Count.{ones}
 use Rattle.hierarchy.proofs.Managing.{Filling}
 use Rattle.hierarchy.proofs.managers.fill_managers.Given as goal
 
 abbrev pub invariant-loop-r : goal.invariant-loop-r
-invariant-loop-r l = Filling l.live l.down l.up l.manager l.rest
-
-abbrev pub decreases-loop-r : goal.decreases-loop-r
-decreases-loop-r l = ones l.rest
+invariant-loop-r l = Filling l.live l.down l.up l.manager l.r-iterator.left
