@@ -190,11 +190,11 @@ pub record Filling (live : ℕ) (down up manager : List ℕ) (rest : ℕ) : Type
   pub rows : length manager ≡ 64
   pub nearest : (t : Tables) → Orderly t live down up → (r : ℕ) → bit rest r ≡ false → NearestIs t r (manager_at manager r)
 
-pub fill_start : (live : ℕ) (down up : List ℕ) → Filling live down up (replicate 64 64) live
-fill_start live down up = record {
+pub fill_start : {live left : ℕ} {down up manager : List ℕ} → manager ≡ replicate 64 64 → left ≡ live → Filling live down up manager left
+fill_start {live} {down = down} {up} b q = subst (Filling live down up _) (sym q) (subst (λ (m : List ℕ). Filling live down up m live) (sym b) (record {
   rows = refl;
   nearest = λ t o r n. inr (λ a k. false_no n (subst (λ (s : ℕ). r is_in s) o.live_is k.scope.derives.to), one_entry 64 r 64);
-}
+}))
 
 pub fill_turn : {live rest x rest' : ℕ} {down up manager : List ℕ} (s m : ℕ) → Taken rest x rest' → Filling live down up manager rest
     → ((a : ℕ) → (a is_in s) ↔ Above down up a x) → ((t : Tables) (r : ℕ) → AdminsOf t down s r → NearestIs t r m)
@@ -241,11 +241,11 @@ pub record Passing (P : ℕ → Type 0) (live rest : ℕ) : Type 0 where
   pub part : (r : ℕ) → r is_in rest → (r is_in live) × (r ≢ 0)
   pub done : (r : ℕ) → r is_in live → r ≢ 0 → (r is_in rest) ⊎ P r
 
-pub pass_start : {P : ℕ → Type 0} {live : ℕ} (rest : ℕ) → ((r : ℕ) → bit rest r ≡ (bit live r && not (same? 0 r))) → Passing P live rest
-pass_start {live = live} rest rest_is = record {
+pub pass_start : {P : ℕ → Type 0} {live left : ℕ} (rest : ℕ) → ((r : ℕ) → bit rest r ≡ (bit live r && not (same? 0 r))) → left ≡ rest → Passing P live left
+pass_start {P} {live} rest rest_is q = subst (Passing P live) (sym q) (record {
   part = λ r e. (and_left (bit live r) (not (same? 0 r)) (sym (rest_is r) ∙ e), gone live 0 rest (omega arith) rest_is r e);
   done = λ r m n. inl (stays live 0 rest rest_is r m n);
-}
+})
 
 pub pass_turn : {P : ℕ → Type 0} {live rest x rest' : ℕ} → Taken rest x rest' → Passing P live rest → P x → Passing P live rest'
 pass_turn {P} turn inv p = record {

@@ -96,12 +96,12 @@ pub record Turning (live : ℕ) (down up : List ℕ) (rest : ℕ) : Type 0 where
   pub part : rest are_in live
   pub members : (x y : ℕ) → bit (row up y) x ≡ ((bit live x && not (bit rest x)) && bit (row down x) y)
 
-pub turning_start : (live : ℕ) (down : List ℕ) → Turning live down (replicate 64 0) live
-turning_start live down = record {
+pub turning_start : {live left : ℕ} {down up : List ℕ} → up ≡ replicate 64 0 → left ≡ live → Turning live down up left
+turning_start {live} {down = down} b q = subst (Turning live down _) (sym q) (subst (λ (t : List ℕ). Turning live down t live) (sym b) (record {
   rows = refl;
   part = λ x e. e;
   members = λ x y. ap (λ (r : ℕ). bit r x) (blank_row 64 y) ∙ bit_zero x ∙ sym (ap (λ (p : Bool). p && bit (row down x) y) (and-not_self (bit live x)));
-}
+}))
 
 pub turning_turn : {live rest x rest' : ℕ} {down up up' : List ℕ} → Taken rest x rest' → Turning live down up rest
     → Marked up (row down x) x up' → Turning live down up' rest'

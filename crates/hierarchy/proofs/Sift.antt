@@ -14,8 +14,8 @@ pub record Sifted (P : ℕ → Type 0) (s found rest : ℕ) : Type 0 where
   pub only : (x : ℕ) → x is_in found → (x is_in s) × P x
   pub every : (x : ℕ) → x is_in s → P x → (x is_in rest) ⊎ (x is_in found)
 
-pub sift_start : (P : ℕ → Type 0) (s : ℕ) → Sifted P s 0 s
-sift_start P s = record { part = λ x e. e; only = λ x e. absurd (false_no (bit_zero x) e); every = λ x e p. inl e }
+pub sift_start : {P : ℕ → Type 0} {s left : ℕ} → left ≡ s → Sifted P s 0 left
+sift_start {P} {s} q = subst (Sifted P s 0) (sym q) (record { part = λ x e. e; only = λ x e. absurd (false_no (bit_zero x) e); every = λ x e p. inl e })
 
 module _ {P : ℕ → Type 0} {s found rest x rest' : ℕ} (turn : Taken rest x rest') (inv : Sifted P s found rest) where
   -- x passes, and is kept

@@ -28,8 +28,8 @@ pub record Gathered (table : List ℕ) (s sum rest : ℕ) : Type 0 where
   pub only : (z : ℕ) → z is_in sum → InRows table s z
   pub every : (y z : ℕ) → y is_in s → z is_in row table y → (y is_in rest) ⊎ (z is_in sum)
 
-pub gather_start : (table : List ℕ) (s : ℕ) → Gathered table s 0 s
-gather_start table s = record { part = λ x e. e; only = λ z e. absurd (false_no (bit_zero z) e); every = λ y z e d. inl e }
+pub gather_start : {table : List ℕ} {s left : ℕ} → left ≡ s → Gathered table s 0 left
+gather_start {table} {s} q = subst (Gathered table s 0) (sym q) (record { part = λ x e. e; only = λ z e. absurd (false_no (bit_zero z) e); every = λ y z e d. inl e })
 
 pub gather_turn : {table : List ℕ} {s sum rest y rest' : ℕ} (sum' : ℕ) → Taken rest y rest' → Gathered table s sum rest
     → ((z : ℕ) → bit sum' z ≡ (bit sum z || bit (row table y) z)) → Gathered table s sum' rest'

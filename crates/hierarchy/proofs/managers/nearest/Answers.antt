@@ -2,8 +2,7 @@ use mathlib.Core.Path.{◌≡◌, subst}
 use Prim.Native.Nat.{ℕ}
 use native.Mathlib.Omega.{arith}
 use Rattle.sets.specs.Sets.{HighestRole, Highest}
-use Rattle.std.specs.Prelude.{Option}
-use Rattle.std.specs.Prelude.{Some, None}
+use Rattle.std.specs.Prelude.{Option, Some}
 use Rattle.hierarchy.proofs.Managing.{near_start, near_turn, near_less, near_end}
 use Rattle.hierarchy.proofs.managers.nearest.Goals as goal
 
@@ -14,8 +13,8 @@ top {s} e h = subst (Highest s) e h
 pub loop-m-init : goal.loop-m-init
 loop-m-init c = near_start _ _
 
-pub returns-in_default : goal.returns-in_default
-returns-in_default c = near_end (subst (Highest _) c.in_default.is c.highest.ensures) c.loop-m.invariant
+pub returns : goal.returns
+returns c = near_end (subst (Highest _) c.in_default.is c.highest.ensures) c.loop-m.invariant
 
 pub overflow_cast-found : goal.overflow_cast-found
 overflow_cast-found c = let l = top c.in-Some.is c.highest.ensures in omega arith

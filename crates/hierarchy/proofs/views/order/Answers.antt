@@ -6,8 +6,8 @@ use Rattle.hierarchy.proofs.views.order.Goals as goal
 pub loop-root-init : goal.loop-root-init
 loop-root-init c = c.requires
 
-pub returns-in_default : goal.returns-in_default
-returns-in_default c = order_end c.loop-root.invariant c.minus.result c.minus.ensures (nobody c.in_default.is c.lowest.ensures)
+pub returns : goal.returns
+returns c = order_end c.loop-root.invariant c.minus.result c.minus.ensures (nobody c.in_default.is c.lowest.ensures)
 
 pub descend-done-requires : goal.descend-done-requires
 descend-done-requires c = order_walk c.loop-root.invariant c.minus.result c.minus.ensures c.in-Some.root (picked c.in-Some.is c.lowest.ensures).member
