@@ -1,9 +1,12 @@
 -- Document 01, part "Roles, edges, paths": which roles live, the two tables of edges, the kinds, and how kinds join.
 use Rattle.std.specs.Prelude.{◌≡◌, Bool, true, false, ◌||◌, List, [], ◌∷◌, ℕ, ◌^◌, ◌<◌, eqb, get_or, length}
 use Rattle.sets.specs.Sets.{bit, ◌is_in◌}
+use Rattle.hierarchy.specs.declared.tables.Tables as code
+
 -- Row x of the I table is the set of the juniors that x has by I, row x of the A table those by A; an IA edge is in both.
 -- The mathematics stands on this record alone, whatever a board of the code holds besides.
-pub use Rattle.hierarchy.specs.declared.tables.Tables.{Tables}
+abbrev pub Tables : Type 0
+Tables = code.Tables
 
 abbrev pub tables : ℕ → List ℕ → List ℕ → Tables
 tables live i a = record { live = live; i = i; a = a }
