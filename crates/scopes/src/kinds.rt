@@ -15,10 +15,8 @@ const JOIN: [[u8; 5]; 5] = [
 pub fn join(first: usize, second: usize) -> u8
     ensures { result ≡ join first second }
 {
-    if first < 5 {
-        if second < 5 {
-            return JOIN[first][second];
-        }
+    if first < 5 && second < 5 {
+        return JOIN[first][second];
     }
     0
 }

@@ -1,7 +1,17 @@
-use mathlib.Core.Logic.{inr, ⊎_elim}
-use Rattle.hierarchy.specs.Views.{OutOfScopeBy.not_derived}
-use Rattle.hierarchy.proofs.Managing.{past_row}
+use borrow.Author.Rules.{rules}
+use Rattle.sets.proofs.Bools.{false_no}
+use Rattle.sets.proofs.Members.{picked}
+use mathlib.Core.Logic.{inr}
+use Rattle.hierarchy.specs.Views.{OutOfScopeBy.not_derived, OutOfScopeBy.in_the_way}
+use Rattle.hierarchy.proofs.Managing.{bar_way}
 use Rattle.scopes.proofs.bars.Goals as goal
+use Rattle.scopes.proofs.bars.Goals.{then-not-has-via-then-not-has, then-not-has-via-else-not-has+then-not-has-2}
+
+pub returns-then-not-has : goal.returns-then-not-has
+returns-then-not-has c = elim c.then-not-has.branch [
+  | then-not-has-via-then-not-has w ↦ inr (not_derived (λ p. false_no w.if-not-has.true (search rules)))
+  | then-not-has-via-else-not-has+then-not-has-2 w ↦ inr (not_derived (λ p. false_no w.if-not-has-2.true (search rules)))
+]
 
 pub returns : goal.returns
-returns c = inr (not_derived (λ p. ⊎_elim (λ w. past_row c.args.up.now _ _ c.whole-2.ensures.rows w.1 p.1) (λ w. past_row c.args.down.now _ _ c.whole.ensures.rows w p.0) c.else-a-lt64.either))
+returns c = inr (in_the_way (search rules) (search rules) (bar_way c.related.result c.minus.result c.related.ensures (λ x. search rules) (picked c.in_ok-stranger.was c.lowest.ensures)))

@@ -1,0 +1,2 @@
+-- What bars a role from a scope, as request 3 numbers it.
+pub mod Bars
