@@ -13,19 +13,19 @@ use Rattle.board.specs.Boards.{tables_of, SoundBoard}
 use Rattle.board.specs.declared.Board.{Board}
 
 module _ {b : Board} (s : SoundBoard b) where
-  pub derives_kept : (x y : ℕ) → (y is_in row b.derives x) ↔ Derives (tables_of b) x y
+  pub derives_kept : (x y : ℕ) → (y is_in row b.kept.derives x) ↔ Derives (tables_of b) x y
   derives_kept = s.right.views.down_is
 
-  pub derivers_kept : (x y : ℕ) → (x is_in row b.derivers y) ↔ Derives (tables_of b) x y
+  pub derivers_kept : (x y : ℕ) → (x is_in row b.kept.derivers y) ↔ Derives (tables_of b) x y
   derivers_kept = s.right.views.up_is
 
-  pub scope_kept : (a r : ℕ) → ScopeBy b.derives b.derivers a r ↔ Scope (tables_of b) a r
+  pub scope_kept : (a r : ℕ) → ScopeBy b.kept.derives b.kept.derivers a r ↔ Scope (tables_of b) a r
   scope_kept a r = scope_by s.right.views
 
-  pub manager_kept : (r : ℕ) → ManagerIs (tables_of b) r (manager_at b.manager r)
+  pub manager_kept : (r : ℕ) → ManagerIs (tables_of b) r (manager_at b.kept.manager r)
   manager_kept = s.right.managers.manager_is
 
-  pub steps_kept : (r : ℕ) → Live (tables_of b) r → Climb (tables_of b) r (steps_up b.manager 64 0 r)
+  pub steps_kept : (r : ℕ) → Live (tables_of b) r → Climb (tables_of b) r (steps_up b.kept.manager 64 0 r)
   steps_kept r l =
       let c = climbs s.sound r l in
       subst (Climb (tables_of b) r) (sym (steps_up_lem s.sound s.right.managers c.1)) c.1

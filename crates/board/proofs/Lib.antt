@@ -8,4 +8,3 @@ pub mod Looking
 pub mod Fitting
 pub mod Asking
 pub mod Reading
-pub mod Values

@@ -1,21 +1,26 @@
 -- What a check of a board's soundness is made of. Assumes nothing.
 use mathlib.Core.Path.{◌≡◌, refl, sym, subst, ◌∙◌}
-use mathlib.Core.Bool.{Bool, true, false, false≢true}
+use mathlib.Core.Bool.{Bool, true, false, true≢false, false≢true}
 use mathlib.Core.Logic.{inl, inr, ◌≢◌, ◌↔◌}
 use mathlib.Core.List.{List, [], ◌∷◌}
 use Prim.Native.Nat.{ℕ}
 use native.Mathlib.Omega.{arith}
-use Rattle.hierarchy.specs.Tables.{Tables, tables, Live, Shaped}
+use Rattle.std.specs.Prelude.{Result, Ok, Err, is_err}
+use Rattle.hierarchy.specs.Tables.{Tables, Live, Shaped}
 use Rattle.hierarchy.specs.First.{First}
 use Rattle.hierarchy.specs.Words.{Joined, Loops, Managed, Sound}
-use Rattle.hierarchy.specs.Views.{InOrder, RightValues, WorkedOut}
+use Rattle.hierarchy.specs.Views.{InOrder, RightValues, WorkedOut, fault_number}
+use Rattle.hierarchy.specs.declared.working.Fault.{Fault}
+use Rattle.hierarchy.specs.declared.working.Fault.TheVariants as fault
 use Rattle.hierarchy.proofs.Admin.{sound_loopless}
 use Rattle.hierarchy.proofs.Decide.{loops_dec, managed_dec}
 use Rattle.hierarchy.proofs.FirstLaws.{pass, passed, none, first_unique}
 use Rattle.hierarchy.proofs.Order.{order_loopless}
 use Rattle.hierarchy.proofs.ManagerLaws.{values_unique}
 use Rattle.board.specs.Rights.{RightsFit}
-use Rattle.board.specs.Boards.{board_of, SoundBoard}
+use Rattle.hierarchy.specs.declared.working.Kept.{Kept}
+use Rattle.board.specs.Boards.{kept_values, SoundBoard}
+use Rattle.board.specs.declared.Board.{Board}
 use Rattle.board.proofs.Rules.{stable, first_done, first_without}
 
 -- ---- a test that decides P, by its answer
@@ -31,6 +36,17 @@ never n = (λ e. absurd (false≢true e), λ x. absurd (n x))
 
 pub always : {P : Type 0} → P → (true ≡ true) ↔ P
 always p = (λ e. p, λ q. refl)
+
+-- ---- what was worked out, by its number
+
+pub found_none : {A : Type 0} (r : Result A Fault) → is_err r ≡ false → fault_number r ≡ 0
+found_none (Ok v) e = refl
+found_none (Err f) e = absurd (true≢false e)
+
+pub found_one : {A : Type 0} (r : Result A Fault) → is_err r ≡ true → fault_number r ≢ 0
+found_one (Ok v) e = absurd (false≢true e)
+found_one (Err fault.Loops) e = λ z. omega (arith, z)
+found_one (Err fault.Unmanaged) e = λ z. omega (arith, z)
 
 -- ---- order
 
@@ -78,9 +94,9 @@ module _ {t : Tables} {d u m : List ℕ} {n : ℕ} (w : WorkedOut t n d u m) whe
   worked_right z = w.right (λ e. omega (arith, z, e))
 
 -- a board keeps what was worked out for it, or it is not sound
-pub kept_is : {live : ℕ} {i a d u m rights down up managers : List ℕ} {r : Bool} → Sound (tables live i a) → RightsFit live rights → RightValues (tables live i a) down up managers
-    → (r ≡ true) ↔ ((d ≡ down) × ((u ≡ up) × (m ≡ managers))) → (r ≡ true) ↔ SoundBoard (board_of live i a d u m rights)
-kept_is {live} {i} {a} sound fit worked same = (
-  λ e. let h = same.0 e in record { sound = sound; right = rw (h.0, h.1.0, h.1.1) worked; rightful = fit },
-  λ s. same.1 (values_unique (sound_loopless sound) s.right worked),
+pub kept_is : {b : Board} {k : Kept} {r : Bool} → Sound b.tables → RightsFit b.tables.live b.rights → RightValues b.tables k.derives k.derivers k.manager
+    → (r ≡ true) ↔ (b.kept ≡ k) → (r ≡ true) ↔ SoundBoard b
+kept_is {b} {k} sound fit worked same = (
+  λ e. record { sound = sound; right = subst (λ (d : Kept). RightValues b.tables d.derives d.derivers d.manager) (sym (same.0 e)) worked; rightful = fit },
+  λ s. same.1 (let q = values_unique (sound_loopless sound) s.right worked in λ n. kept_values (q.0 n) (q.1.0 n) (q.1.1 n)),
 )

@@ -7,34 +7,39 @@ use Prim.Native.Nat.{ℕ, zero, suc, ◌+◌, ◌<◌, ◌≤◌}
 use native.Mathlib.Omega.{arith}
 use lib.Dec.{ltb}
 use lib.ListN.{length, get_or-eq_default}
-use borrow.Author.Tests.{eq-eqb, ne_eqb, lt-ltb, le-ltb, ltb-false}
+use borrow.Author.Tests.{eq-eqb, ne_eqb, le-ltb, ltb-false}
+use Rattle.std.specs.Prelude.{Some, None}
+use Rattle.std.specs.Bool.{then_some}
 use Rattle.hierarchy.specs.Views.{manager_at, steps_up}
 use Rattle.board.specs.Kept.{manager_from}
-use Rattle.board.specs.declared.kept.Manager.TheVariants.{Role, Nobody}
 
 -- ---- a manager as an answer
 
-pub from_role : (m k : ℕ) → m ≡ k → m < 64 → Role m ≡ manager_from k
+pub from_then : (m k : ℕ) → m ≡ k → then_some (ltb m 64) m ≡ manager_from k
 unfolding manager_from
-from_role m k e l = ap Role e ∙ sym (ap (λ (p : Bool). cond p (Role k) Nobody) (lt-ltb k 64 (omega arith)))
-
-pub from_none : (m k : ℕ) → m ≡ k → 64 ≤ m → Nobody ≡ manager_from k
-unfolding manager_from
-from_none m k e g = sym (ap (λ (p : Bool). cond p (Role k) Nobody) (le-ltb k 64 (omega arith)))
-
-pub role_of_lem : (k m : ℕ) → manager_from k ≡ Role m → m ≡ k
-unfolding manager_from
-role_of_lem k m = go (ltb k 64)
+from_then m k e = go (ltb m 64) ∙ ap manager_from e
   where
-    go : (p : Bool) → cond p (Role k) Nobody ≡ Role m → m ≡ k
+    go : (p : Bool) → then_some p m ≡ cond p (Some m) None
+    go true = refl
+    go false = refl
+
+pub from_none : (m k : ℕ) → m ≡ k → 64 ≤ m → None ≡ manager_from k
+unfolding manager_from
+from_none m k e g = sym (ap (λ (p : Bool). cond p (Some k) None) (le-ltb k 64 (omega arith)))
+
+pub some_of : (k m : ℕ) → manager_from k ≡ Some m → m ≡ k
+unfolding manager_from
+some_of k m = go (ltb k 64)
+  where
+    go : (p : Bool) → cond p (Some k) None ≡ Some m → m ≡ k
     go true e = cc
     go false e = cc
 
-pub nobody_of : (k : ℕ) → manager_from k ≡ Nobody → 64 ≤ k
+pub none_of : (k : ℕ) → manager_from k ≡ None → 64 ≤ k
 unfolding manager_from
-nobody_of k = go (ltb k 64) refl
+none_of k = go (ltb k 64) refl
   where
-    go : (p : Bool) → ltb k 64 ≡ p → cond p (Role k) Nobody ≡ Nobody → 64 ≤ k
+    go : (p : Bool) → ltb k 64 ≡ p → cond p (Some k) None ≡ None → 64 ≤ k
     go true q e = let z : k ≡ 64 = cc in omega arith
     go false q e = ltb-false k 64 q
 

@@ -26,7 +26,7 @@ by_number n f g = dite (ℕ_discrete n 0) f g
 -- Tables without a loop, rights and right values leave one board,
 pub right_board : {b d : Board} → (LiveLoops (tables_of b) → ⊥) → KeepsRight b → KeepsRight d → tables_of b ≡ tables_of d → b.rights ≡ d.rights → b ≡ d
 right_board {b} {d} loopless v w e r =
-    let q = values_unique loopless v (subst (λ (t : Tables). RightValues t d.derives d.derivers d.manager) (sym e) w) in
+    let q = values_unique loopless v (subst (λ (t : Tables). RightValues t d.kept.derives d.kept.derivers d.kept.manager) (sym e) w) in
     λ k. board_of (e k).live (e k).i (e k).a (q.0 k) (q.1.0 k) (q.1.1 k) (r k)
 
 -- and so do tables, rights and soundness.
@@ -40,10 +40,10 @@ list_stable xs ys h = ext_get_or 0 xs ys
     (λ n _. stable (ℕ_discrete (get_or xs n 0) (get_or ys n 0)) (λ k. h (λ e. k (ap (λ (l : List ℕ). get_or l n 0) e))))
 
 pub board_stable : (b d : Board) → ((b ≡ d → ⊥) → ⊥) → b ≡ d
-board_stable b d h = λ k. board_of (live k) (part (λ x. x.i) k) (part (λ x. x.a) k) (part (λ x. x.derives) k) (part (λ x. x.derivers) k) (part (λ x. x.manager) k) (part (λ x. x.rights) k)
+board_stable b d h = λ k. board_of (live k) (part (λ x. x.tables.i) k) (part (λ x. x.tables.a) k) (part (λ x. x.kept.derives) k) (part (λ x. x.kept.derivers) k) (part (λ x. x.kept.manager) k) (part (λ x. x.rights) k)
   where
-    live : b.live ≡ d.live
-    live = stable (ℕ_discrete b.live d.live) (λ n. h (λ e. n (ap (λ (x : Board). x.live) e)))
+    live : b.tables.live ≡ d.tables.live
+    live = stable (ℕ_discrete b.tables.live d.tables.live) (λ n. h (λ e. n (ap (λ (x : Board). x.tables.live) e)))
 
     part : (field : Board → List ℕ) → field b ≡ field d
     part field = list_stable (field b) (field d) (λ n. h (λ e. n (ap field e)))

@@ -1,8 +1,6 @@
 -- A line manager as it is kept.
-use Rattle.std.specs.Prelude.{cond, ℕ, ltb}
-use Rattle.board.specs.declared.kept.Manager.{Manager}
-use Rattle.board.specs.declared.kept.Manager.TheVariants.{Role, Nobody}
+use Rattle.std.specs.Prelude.{Option, Some, None, cond, ℕ, ltb}
 
 -- a number above 63 is no manager
-unfoldable pub manager_from : ℕ → Manager
-manager_from m = cond (ltb m 64) (Role m) Nobody
+unfoldable pub manager_from : ℕ → Option ℕ
+manager_from m = cond (ltb m 64) (Some m) None

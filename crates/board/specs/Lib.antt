@@ -1,6 +1,7 @@
--- The board: its records, soundness, rights, and what is asked about named roles.
+-- The board: its records, soundness, rights, commands by number, and what is asked about named roles.
 pub mod Boards
 pub mod Rights
 pub mod Asked
 pub mod Answers
+pub mod Codes
 pub mod Kept

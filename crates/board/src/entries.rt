@@ -1,35 +1,26 @@
 // Whether entries join live roles.
 ghost use Rattle.std.specs.Prelude.{◌≡◌, true, ◌↔◌, ℕ};
 ghost use Rattle.sets.specs.Sets.{◌is_in◌};
-ghost use Rattle.hierarchy.specs.Tables.{tables};
 ghost use Rattle.hierarchy.specs.Words.{Joined};
 
-use hierarchy::shape::whole;
+use hierarchy::tables::Tables;
 use sets::{has, union, within};
 
 // Whether role x may have these juniors: it has none, or all of them and itself live. Most roles have none, so that is asked first.
 fn joins_live(live: u64, x: usize, juniors: u64) -> bool
     ensures { (result ≡ true) ↔ ((y : ℕ) → y is_in juniors → (x is_in live) × (y is_in live)) }
 {
-    if juniors == 0 {
-        return true;
-    }
-    if !has(live, x) {
-        return false;
-    }
-    within(juniors, live)
+    juniors == 0 || has(live, x) && within(juniors, live)
 }
 
 // Whether each entry of either table joins two live roles.
-pub(crate) fn joined<'t>(live: u64, i: &'t [u64; 64], a: &'t [u64; 64]) -> bool
-    ensures { (result ≡ true) ↔ Joined (tables live i.now a.now) }
+pub(crate) fn joined(t: &Tables) -> bool
+    ensures { (result ≡ true) ↔ Joined t.now }
 {
     for x in 0..64 {
-        if !joins_live(live, x, union(i[x], a[x])) {
+        if !joins_live(t.live, x, union(t.i[x], t.a[x])) {
             return false;
         }
     }
-    whole(*i);
-    whole(*a);
     true
 }

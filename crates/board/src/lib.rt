@@ -1,9 +1,10 @@
-// The records that all else speaks of: a board, a command, its answer; the founding board, whether a board is sound, and what it keeps. Knows
-// the words of `hierarchy` and scopes; decides nothing.
+// The records that all else speaks of: a board, a command, why one is refused; the founding board, whether a board is sound, and what it
+// keeps. Knows the words of `hierarchy` and scopes; decides nothing.
 #![tactic(auto)]
 
 ghost use Rattle.std.specs.Prelude.{◌≡◌};
 ghost use Rattle.board.specs.Boards.{founding_board};
+ghost use Rattle.board.specs.Codes.{IsCode};
 
 pub mod answers;
 pub mod checks;
@@ -12,20 +13,17 @@ pub mod kept;
 pub mod parts;
 mod rights;
 
-// `live` is the set of the live roles. Row x of `i` is the set of the juniors that role x has by I, row x of `a` of those by A; an
-// IA edge is in both. The rest is kept so that nobody has to work it out again: row x of `derives` is the set of what x derives, row
-// x of `derivers` of what derives x, and `manager` has the line managers, with NO_MANAGER for none. A command leaves these right; a
-// board where they are wrong is not sound. `rights` has a byte for each role, with the right to give command 1 in its lowest bit and
-// so on; a board is not sound where a role that isn't live has one, or where there are more than the five.
+use hierarchy::tables::Tables;
+use hierarchy::working::Kept;
+
+// The two tables of edges, what is kept so that nobody has to work it out again, and the rights. A command leaves what is kept right; a
+// board where it is wrong is not sound. `rights` has a byte for each role, with the right to give command 1 in its lowest bit and so on; a
+// board is not sound where a role that isn't live has one, or where there are more than the five.
 #[repr(C)]
 #[derive(Clone, Copy)]
 pub struct Board {
-    pub live: u64,
-    pub i: [u64; Board::ROLES],
-    pub a: [u64; Board::ROLES],
-    pub derives: [u64; Board::ROLES],
-    pub derivers: [u64; Board::ROLES],
-    pub manager: [u8; Board::ROLES],
+    pub tables: Tables,
+    pub kept: Kept,
     pub rights: [u8; Board::ROLES],
 }
 
@@ -33,7 +31,7 @@ impl Board {
     pub const ROLES: usize = 64;
 
     pub const EDGES: usize = 2016;
-    // in `manager`: role 0 and roles that aren't live have none
+    // in `kept.manager`: role 0 and roles that aren't live have none
     pub const NO_MANAGER: u8 = 64;
     // in `rights`: all five
     pub const ALL_RIGHTS: u8 = 31;
@@ -46,18 +44,22 @@ impl Board {
     pub fn founding() -> Self
         ensures { result ≡ founding_board }
     {
-        let none = [0u64; Board::ROLES];
-        let mut itself = [0u64; Board::ROLES];
+        let none = [0; Board::ROLES];
+        let mut itself = none;
         itself[0] = 1;
-        let mut rights = [0u8; Board::ROLES];
+        let mut rights = [0; Board::ROLES];
         rights[0] = Board::ALL_RIGHTS;
         Board {
-            live: 1,
-            i: none,
-            a: none,
-            derives: itself,
-            derivers: itself,
-            manager: [Board::NO_MANAGER; Board::ROLES],
+            tables: Tables {
+                live: 1,
+                i: none,
+                a: none,
+            },
+            kept: Kept {
+                derives: itself,
+                derivers: itself,
+                manager: [Board::NO_MANAGER; Board::ROLES],
+            },
             rights,
         }
     }
@@ -78,4 +80,34 @@ pub struct Command {
     pub i_seniors: u64,
     pub a_juniors: u64,
     pub i_juniors: u64,
+}
+
+// The commands, in the order of their numbers, from 1 to 7.
+#[derive(Clone, Copy, PartialEq, Eq)]
+pub enum Code {
+    AddRole,
+    RemoveRole,
+    AddEdge,
+    RemoveEdge,
+    ChangeEdge,
+    GiveRights,
+    TakeRights,
+}
+
+impl Command {
+    // The command that the number `code` names, or none.
+    pub fn named(&self) -> Option<Code>
+        ensures { IsCode self.now.code result }
+    {
+        match self.code {
+            1 => Some(Code::AddRole),
+            2 => Some(Code::RemoveRole),
+            3 => Some(Code::AddEdge),
+            4 => Some(Code::RemoveEdge),
+            5 => Some(Code::ChangeEdge),
+            6 => Some(Code::GiveRights),
+            7 => Some(Code::TakeRights),
+            _ => None,
+        }
+    }
 }

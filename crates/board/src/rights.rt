@@ -4,31 +4,24 @@ ghost use Rattle.sets.specs.Sets.{◌is_in◌};
 ghost use Rattle.board.specs.Rights.{RightsFit};
 
 use crate::Board;
-use hierarchy::shape::whole_row;
 use sets::has;
 
 // Whether x may hold these rights: it lives, and they are among the five.
 fn may_hold(live: u64, x: usize, held: u8) -> bool
     ensures { (result ≡ true) ↔ ((held ≤ 31) × (x is_in live)) }
 {
-    if Board::ALL_RIGHTS < held {
-        return false;
-    }
-    has(live, x)
+    held <= Board::ALL_RIGHTS && has(live, x)
 }
 
 // Whether there are only the five rights, and only live roles hold any. Most roles hold none, so that is asked first.
 pub(crate) fn rightful(live: u64, rights: &[u8; 64]) -> bool
     ensures { (result ≡ true) ↔ RightsFit live rights.now }
 {
-    whole_row(*rights);
-    let mut x: usize = 0;
-    while x < 64 {
+    for x in 0..64 {
         let held = rights[x];
         if held != 0 && !may_hold(live, x, held) {
             return false;
         }
-        x += 1;
     }
     true
 }
