@@ -13,6 +13,10 @@ use Rattle.frames.specs.Frames.{BadHH.long, BadHH.not_all, BadHH.too_far, BadHH.
 use Rattle.frames.specs.Framing.{body_length, trailer_of, Trailed, GoodFrame, Announced}
 use Rattle.frames.proofs.Bytes.{bytes, take_bytes}
 
+-- the high byte of a distance, which is read from the end
+pub high_byte : (f : List ℕ) (k : ℕ) → suc k ≤ length f → byte f (length f - suc k + 1) ≡ byte f (length f - k)
+high_byte f k l = ap (byte f) (omega arith)
+
 -- ---- what a trailer says
 
 pub record Said (plain : Bool) (f : List ℕ) (n e : ℕ) : Type 0 where

@@ -1,18 +1,11 @@
 -- What the reader of a frame promises: document 01's fault, or how many role bytes and edge records there are, and whether rights bytes.
-use Rattle.std.specs.Prelude.{◌≡◌, Bool, cond, not, List, ℕ, ◌+◌, ◌*◌, ◌≤◌, length, drop}
-use Rattle.frames.specs.Frames.{trailer, rights_trailer, edges_back, EndsHH, EndsHR, role_count, edge_count, BadFrame}
-use Rattle.frames.specs.declared.Ending.{Ending}
-use Rattle.frames.specs.declared.Ending.TheVariants.{Plain, Rights, Other}
-use Rattle.frames.specs.declared.Framed.{Framed}
-use Rattle.frames.specs.declared.Framed.TheVariants.{Good, Bad}
+use Rattle.std.specs.Prelude.{◌≡◌, Result, Ok, Err, Bool, cond, not, List, ℕ, ◌+◌, ◌*◌, ◌≤◌, length, drop}
+use Rattle.frames.specs.Frames.{trailer, rights_trailer, edges_back, role_count, edge_count, BadFrame}
+use Rattle.board.specs.declared.answers.Refusal.{Refusal}
+use Rattle.board.specs.declared.answers.Refusal.TheVariants as refusal
+use Rattle.frames.specs.declared.Layout.{Layout}
 
 -- ---- the frame
-
--- the mark that a file ends in
-abbrev pub Ended : List ℕ → Ending → Type 0
-Ended f Plain = EndsHH f
-Ended f Rights = EndsHR f
-Ended f Other = (EndsHH f → ⊥) × (EndsHR f → ⊥)
 
 -- what lies behind n role bytes and e bytes of edge records up to the trailer, and the trailer: HH's where `plain`, else HR's
 unfoldable pub body_length : Bool → ℕ → ℕ → ℕ
@@ -33,9 +26,9 @@ pub record GoodFrame (f : List ℕ) (n m : ℕ) (rights : Bool) : Type 0 where
   pub few : n ≤ 64
   pub trailed : Trailed (not rights) f n (3 * m)
 
-abbrev pub Framing : List ℕ → Framed → Type 0
-Framing f (Good n m rights) = GoodFrame f n m rights
-Framing f Bad = BadFrame f
+abbrev pub Framing : List ℕ → Result Layout Refusal → Type 0
+Framing f (Ok r) = GoodFrame f r.roles r.edges r.rights
+Framing f (Err e) = BadFrame f × (e ≡ refusal.BadFrame)
 
 -- what the records' readers need of it
 pub record Announced (f : List ℕ) (n m : ℕ) : Type 0 where

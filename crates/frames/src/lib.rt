@@ -2,12 +2,13 @@
 // the limits of a board; reads no record.
 #![tactic(auto)]
 
-ghost use Rattle.std.specs.Prelude.{◌≡◌, ◌+◌, ◌≤◌, length};
-ghost use Rattle.frames.specs.Frames.{word, EndsHH, EndsHR};
+ghost use Rattle.std.specs.Prelude.{◌≡◌, ◌+◌, ◌*◌, ◌≤◌, length};
+ghost use Rattle.frames.specs.Frames.{EndsHH, EndsHR};
 ghost use Rattle.frames.specs.Frames.{edges_back};
-ghost use Rattle.frames.specs.Framing.{Ended, Framing};
+ghost use Rattle.frames.specs.Framing.{Framing};
 
 use board::Board;
+use board::answers::Refusal;
 
 // the last two bytes of a file without rights bytes, and of one with them
 pub const MARK: [u8; 2] = *b"HH";
@@ -18,76 +19,19 @@ pub const TRAILER: usize = 6;
 
 pub const RIGHTS_TRAILER: usize = 8;
 
-#[derive(Clone, Copy)]
-pub enum Framed {
-    Good {
-        roles: usize,
-        edges: usize,
-        rights: bool,
-    },
-    Bad,
-}
-
-#[derive(Clone, Copy)]
-enum Ending {
-    Plain,
-    Rights,
-    Other,
+// What a frame announces: so many role bytes and edge records, and whether there are rights bytes.
+#[derive(Clone, Copy, PartialEq, Eq)]
+pub struct Layout {
+    pub roles: usize,
+    pub edges: usize,
+    pub rights: bool,
 }
 
 // A distance: two bytes, the low one first.
-fn distance(file: &[u8], at: usize) -> usize
-    requires { at + 2 ≤ length file.now }
-    ensures { result ≡ word file.now at }
+fn distance(low: u8, high: u8) -> usize
+    ensures { result ≡ low + 256 * high }
 {
-    let low = file[at] as usize;
-    let high = file[at + 1] as usize;
-    low + 256 * high
-}
-
-// The mark that the file ends in.
-fn marked(file: &[u8]) -> Ending
-    requires { 2 ≤ length file.now }
-    ensures { Ended file.now result }
-{
-    let n = file.len();
-    let first = file[n - 2];
-    let last = file[n - 1];
-    if first == MARK[0] && last == MARK[1] {
-        return Ending::Plain;
-    }
-    if first == RIGHTS_MARK[0] && last == RIGHTS_MARK[1] {
-        return Ending::Rights;
-    }
-    Ending::Other
-}
-
-// The frame of a file that ends in HH: what lies between the two distances is the role bytes.
-fn plain_frame(file: &[u8]) -> Framed
-    requires { (6 ≤ length file.now) × EndsHH file.now }
-    ensures { Framing file.now result }
-{
-    let n = file.len();
-    if Board::PLAIN_FILE < n {
-        return Framed::Bad;
-    }
-    let body = n - TRAILER;
-    if distance(file, n - 4) != body {
-        return Framed::Bad;
-    }
-    let edges = distance(file, body);
-    if body < edges || edges % 3 != 0 {
-        return Framed::Bad;
-    }
-    let roles = body - edges;
-    if roles < 1 || Board::ROLES < roles {
-        return Framed::Bad;
-    }
-    Framed::Good {
-        roles,
-        edges: edges / 3,
-        rights: false,
-    }
+    usize::from(u16::from_le_bytes([low, high]))
 }
 
 // How far before the trailer the edge records begin that lie before so many rights bytes; 0 where there are none.
@@ -100,51 +44,66 @@ pub fn edges_back(rights: u32, edges: u32) -> usize
     rights as usize + edges as usize
 }
 
+// The frame of a file that ends in HH: what lies between the two distances is the role bytes.
+fn plain_frame(file: &[u8]) -> Result<Layout, Refusal>
+    requires { EndsHH file.now }
+    ensures { Framing file.now result }
+{
+    let [body @ .., e0, e1, r0, r1, _, _] = file else {
+        return Err(Refusal::BadFrame);
+    };
+    let edges = distance(*e0, *e1);
+    if Board::PLAIN_FILE < file.len() || distance(*r0, *r1) != body.len() || edges % 3 != 0 {
+        return Err(Refusal::BadFrame);
+    }
+    let roles = body.len().checked_sub(edges).ok_or(Refusal::BadFrame)?;
+    if roles < 1 || Board::ROLES < roles {
+        return Err(Refusal::BadFrame);
+    }
+    Ok(Layout {
+        roles,
+        edges: edges / 3,
+        rights: false,
+    })
+}
+
 // The frame of a file that ends in HR: there are as many role bytes as rights bytes, and what is left is the edge records.
-fn rights_frame(file: &[u8]) -> Framed
+fn rights_frame(file: &[u8]) -> Result<Layout, Refusal>
     requires { EndsHR file.now }
     ensures { Framing file.now result }
 {
-    let n = file.len();
-    if n < RIGHTS_TRAILER || Board::FILE < n {
-        return Framed::Bad;
+    let [body @ .., h0, h1, e0, e1, r0, r1, _, _] = file else {
+        return Err(Refusal::BadFrame);
+    };
+    let roles = distance(*h0, *h1);
+    if Board::FILE < file.len()
+        || distance(*r0, *r1) != body.len()
+        || roles == 0
+        || Board::ROLES < roles
+    {
+        return Err(Refusal::BadFrame);
     }
-    let body = n - RIGHTS_TRAILER;
-    if distance(file, n - 4) != body {
-        return Framed::Bad;
+    let edges = body.len().checked_sub(2 * roles).ok_or(Refusal::BadFrame)?;
+    if edges % 3 != 0 || distance(*e0, *e1) != edges_back(roles as u32, edges as u32) {
+        return Err(Refusal::BadFrame);
     }
-    let roles = distance(file, body);
-    if roles == 0 || Board::ROLES < roles {
-        return Framed::Bad;
-    }
-    if body < 2 * roles {
-        return Framed::Bad;
-    }
-    let edges = body - 2 * roles;
-    if edges % 3 != 0 {
-        return Framed::Bad;
-    }
-    if distance(file, n - 6) != edges_back(roles as u32, edges as u32) {
-        return Framed::Bad;
-    }
-    Framed::Good {
+    Ok(Layout {
         roles,
         edges: edges / 3,
         rights: true,
-    }
+    })
 }
 
 // The number of role bytes and of edge records, of a file whose frame is right.
-pub fn frame(file: &[u8]) -> Framed
+pub fn frame(file: &[u8]) -> Result<Layout, Refusal>
     ensures { Framing file.now result }
 {
-    if file.len() < TRAILER {
-        return Framed::Bad;
-    }
-    let end = marked(file);
-    match end {
-        Ending::Plain => plain_frame(file),
-        Ending::Rights => rights_frame(file),
-        Ending::Other => Framed::Bad,
+    let [.., first, second] = file else {
+        return Err(Refusal::BadFrame);
+    };
+    match [*first, *second] {
+        MARK => plain_frame(file),
+        RIGHTS_MARK => rights_frame(file),
+        _ => Err(Refusal::BadFrame),
     }
 }
