@@ -5,7 +5,6 @@ ghost use Rattle.hierarchy.specs.Tables.{tables};
 ghost use Rattle.hierarchy.specs.Views.{Turned};
 ghost use Rattle.hierarchy.specs.Engine.{InRows, RowSettled, SoFar, Ready, Finished, Starts, Descended, Ordered, FilledDown, Marked};
 
-use crate::shape::whole_row;
 use sets::{has, lowest, minus, roles_of, single, union, with, within, without};
 
 // The union of the rows of the roles of s.
@@ -140,7 +139,6 @@ pub(crate) fn fill_down<'t>(
 {
     blank(down);
     blank(by_i);
-    whole_row(*path);
     order(live, i, a, by_i, down, path)
 }
 
