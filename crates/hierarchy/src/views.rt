@@ -1,10 +1,11 @@
 // The views of a board: what each role derives, and what derives it.
-ghost use Rattle.std.specs.Prelude.{◌≡◌, ◌↔◌, ℕ, ◌<◌, length, replicate};
+ghost use Rattle.std.specs.Prelude.{◌≡◌, ◌↔◌, ℕ, ◌<◌, length};
 ghost use Rattle.sets.specs.Sets.{◌is_in◌};
-ghost use Rattle.hierarchy.specs.Tables.{tables};
 ghost use Rattle.hierarchy.specs.Views.{Turned};
 ghost use Rattle.hierarchy.specs.Engine.{InRows, RowSettled, SoFar, Ready, Finished, Starts, Descended, Ordered, FilledDown, Marked};
 
+use crate::tables::Tables;
+use crate::working::Kept;
 use sets::{has, lowest, minus, roles_of, single, union, with, within, without};
 
 // The union of the rows of the roles of s.
@@ -16,13 +17,6 @@ fn rows(table: &[u64; 64], s: u64) -> u64
         sum = union(sum, table[y]);
     }
     sum
-}
-
-// No row has a member.
-pub(crate) fn blank(table: &mut [u64; 64])
-    ensures { table.new ≡ replicate 64 0 }
-{
-    *table = [0; 64];
 }
 
 // The row of role x is what it has of its own and the rows of its juniors in the table.
@@ -37,81 +31,45 @@ fn settle(table: &[u64; 64], reach: &mut [u64; 64], x: usize, own: u64) -> u64
 }
 
 // Settles x, whose juniors are done, first by I alone, then by A and from there by I; gives the roles that are done now.
-fn finish<'t>(
-    i: &'t [u64; 64],
-    a: &'t [u64; 64],
-    by_i: &mut [u64; 64],
-    down: &mut [u64; 64],
-    done: u64,
-    x: usize,
-) -> u64
-    requires { Ready i.now a.now by_i.old down.old done x }
-    ensures { Finished i.now a.now by_i.new down.new done x result }
+fn finish(t: &Tables, kept: &mut Kept, done: u64, x: usize) -> u64
+    requires { Ready t.now.i t.now.a kept.old.derivers kept.old.derives done x }
+    ensures finished { Finished t.now.i t.now.a kept.new.derivers kept.new.derives done x result }
+    ensures same { kept.new.manager ≡ kept.old.manager }
 {
-    let row = settle(i, by_i, x, single(x));
-    settle(a, down, x, row);
+    let row = settle(&t.i, &mut kept.derivers, x, single(x));
+    settle(&t.a, &mut kept.derives, x, row);
     with(done, x)
 }
 
 // Goes down from root, each role of the path a junior of the one before, and settles a role on the way back, when its juniors are done.
 // Fresh are the live roles it hasn't met: a junior neither done nor fresh is on the path, a loop, or doesn't live, and there it stops.
-fn descend<'t>(
-    live: u64,
-    i: &'t [u64; 64],
-    a: &'t [u64; 64],
-    by_i: &mut [u64; 64],
-    down: &mut [u64; 64],
-    path: &mut [u8; 64],
-    start: u64,
-    root: usize,
-) -> u64
-    requires { Starts live i.now a.now by_i.old down.old path.old start root }
-    ensures { Descended live i.now a.now by_i.new down.new path.new start root result }
+// The path stands in the row of managers, and `above` is the place of its last role: there is no heap, and no other room.
+fn descend(t: &Tables, kept: &mut Kept, start: u64, root: usize) -> u64
+    requires { Starts t.now.live t.now.i t.now.a kept.old.derivers kept.old.derives kept.old.manager start root }
+    ensures { Descended t.now.live t.now.i t.now.a kept.new.derivers kept.new.derives kept.new.manager start root result }
 {
     let mut done = start;
-    let mut fresh = without(minus(live, start), root);
+    let mut fresh = without(minus(t.live, start), root);
     let mut above: usize = 0;
-    path[0] = root as u8;
+    kept.manager[0] = root as u8;
     loop {
-        let x = path[above] as usize;
-        let waiting = minus(union(i[x], a[x]), done);
+        let x = kept.manager[above] as usize;
+        let waiting = minus(union(t.i[x], t.a[x]), done);
         if let Some(y) = lowest(waiting) {
             if !within(waiting, fresh) {
                 return done;
             }
             fresh = without(fresh, y);
             above += 1;
-            path[above] = y as u8;
+            kept.manager[above] = y as u8;
         } else {
-            done = finish(i, a, by_i, down, done, x);
+            done = finish(t, kept, done, x);
             if above == 0 {
                 return done;
             }
             above -= 1;
         }
     }
-}
-
-// Whether the live roles are in order: goes down from each that isn't done yet, until all are.
-fn order<'t>(
-    live: u64,
-    i: &'t [u64; 64],
-    a: &'t [u64; 64],
-    by_i: &mut [u64; 64],
-    down: &mut [u64; 64],
-    path: &mut [u8; 64],
-) -> bool
-    requires { SoFar live i.now a.now by_i.old down.old path.old 0 }
-    ensures { Ordered live i.now a.now by_i.new down.new result }
-{
-    let mut done: u64 = 0;
-    while let Some(root) = lowest(minus(live, done)) {
-        done = descend(live, i, a, by_i, down, path, done, root);
-        if !has(done, root) {
-            return false;
-        }
-    }
-    true
 }
 
 // x goes into the row of each role of s.
@@ -124,30 +82,31 @@ fn mark(up: &mut [u64; 64], s: u64, x: usize)
     }
 }
 
-// Settles the roles of a board from the juniors up: whether its live roles are in order, which is that there is no loop and every junior
-// of a live role lives. Row x of `down` then becomes the set of what x derives. The other two are room to work in; they, and `down` where
-// there is no order, hold anything afterwards.
-pub(crate) fn fill_down<'t>(
-    live: u64,
-    i: &'t [u64; 64],
-    a: &'t [u64; 64],
-    down: &mut [u64; 64],
-    by_i: &mut [u64; 64],
-    path: &mut [u8; 64],
-) -> bool
-    ensures { FilledDown (tables live i.now a.now) result down.new }
+// Settles the roles of a board from the juniors up, going down from each live role that isn't done yet: whether the live roles are in
+// order, which is that there is no loop and every junior of a live role lives. Row x of `derives` then is the set of what x derives. Until
+// then `derivers` has what the roles that are done lead to by I alone, and `manager` the path; where there is no order, all hold anything.
+pub(crate) fn fill_down(t: &Tables, kept: &mut Kept) -> bool
+    ensures { FilledDown t.now result kept.new.derives }
 {
-    blank(down);
-    blank(by_i);
-    order(live, i, a, by_i, down, path)
+    kept.derives = [0; 64];
+    kept.derivers = [0; 64];
+    let mut done: u64 = 0;
+    while let Some(root) = lowest(minus(t.live, done)) {
+        done = descend(t, kept, done, root);
+        if !has(done, root) {
+            return false;
+        }
+    }
+    true
 }
 
-// Row y of `up` becomes the set of the live roles whose row in `down` has y: what derives y, where all live roles settle.
-pub(crate) fn fill_up(live: u64, down: &[u64; 64], up: &mut [u64; 64])
-    ensures { Turned live down.now up.new }
+// Row y of `derivers` becomes the set of the live roles whose row in `derives` has y: what derives y, where all live roles settle.
+pub(crate) fn fill_up(live: u64, kept: &mut Kept)
+    ensures turned { Turned live kept.old.derives kept.new.derivers }
+    ensures same { kept.new.derives ≡ kept.old.derives }
 {
-    blank(up);
+    kept.derivers = [0; 64];
     for x in roles_of(live) {
-        mark(up, down[x], x);
+        mark(&mut kept.derivers, kept.derives[x], x);
     }
 }

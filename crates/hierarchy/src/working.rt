@@ -1,9 +1,9 @@
 // All that a board keeps of its tables, worked out in one call.
 ghost use Rattle.hierarchy.specs.Views.{WorkedOut, fault_number};
 
-use crate::managers::{all_managed, clear, fill_managers};
+use crate::managers::{NONE, all_managed, fill_managers};
 use crate::tables::Tables;
-use crate::views::{blank, fill_down, fill_up};
+use crate::views::{fill_down, fill_up};
 
 // Row x of `derives` is the set of what role x derives, row x of `derivers` of what derives x, and `manager` has the line managers, with 64
 // for none.
@@ -27,22 +27,15 @@ pub enum Fault {
 pub fn work_out(t: &Tables, kept: &mut Kept) -> Result<(), Fault>
     ensures { WorkedOut t.now (fault_number result) kept.new.derives kept.new.derivers kept.new.manager }
 {
-    if !fill_down(
-        t.live,
-        &t.i,
-        &t.a,
-        &mut kept.derives,
-        &mut kept.derivers,
-        &mut kept.manager,
-    ) {
-        blank(&mut kept.derives);
-        blank(&mut kept.derivers);
-        clear(&mut kept.manager);
+    if !fill_down(t, kept) {
+        kept.derives = [0; 64];
+        kept.derivers = [0; 64];
+        kept.manager = [NONE; 64];
         return Err(Fault::Loops);
     }
-    fill_up(t.live, &kept.derives, &mut kept.derivers);
-    fill_managers(t.live, &kept.derives, &kept.derivers, &mut kept.manager);
-    if !all_managed(t.live, &kept.manager) {
+    fill_up(t.live, kept);
+    fill_managers(t.live, kept);
+    if !all_managed(t.live, kept) {
         return Err(Fault::Unmanaged);
     }
     Ok(())

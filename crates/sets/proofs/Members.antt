@@ -37,6 +37,10 @@ module _ {rest x rest' : ℕ} (t : Drawn rest x rest') where
       (λ n. inl (t.rest_is y ∙ and_both (bit rest y) (not (same? x y)) e (ap not n)))
       (true_or_false (same? x y))
 
+-- x is the lowest role of a part of rest
+pub drawn_by : {part rest x rest' : ℕ} → LowestRole part x → part are_in rest → ((y : ℕ) → bit rest' y ≡ (bit rest y && not (same? x y))) → Drawn rest x rest'
+drawn_by {x = x} l p r = record { role = l.role; member = p x l.member; rest_is = r }
+
 -- the same where x is the lowest role of rest
 module _ {rest x rest' : ℕ} (t : Taken rest x rest') where
   pub drawn : Drawn rest x rest'

@@ -7,4 +7,4 @@ pub loop-r-init : goal.loop-r-init
 loop-r-init c = pass_start c.without.result c.without.ensures (search rules)
 
 pub loop-r-preserved : goal.loop-r-preserved
-loop-r-preserved c = let t = c.in-Some.ensures.steps in pass_turn t c.loop-r.invariant (λ q. c.if-manager-r-eq-NONE.false (sym (at_role c.args.manager.now _ c.requires t.lowest.role) ∙ q))
+loop-r-preserved c = let t = c.in-Some.ensures.steps in pass_turn t c.loop-r.invariant (λ q. c.if-kept-r-eq-NONE.false (sym (at_role c.args.kept.now.manager _ (search rules) t.lowest.role) ∙ q))

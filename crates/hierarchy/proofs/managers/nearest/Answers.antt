@@ -19,11 +19,11 @@ returns c = near_end (subst (Highest _) c.in_default.is c.highest.ensures) c.loo
 pub overflow_cast-found : goal.overflow_cast-found
 overflow_cast-found c = let l = top c.in-Some.is c.highest.ensures in omega arith
 
-pub offset_bounds-down-m : goal.offset_bounds-down-m
-offset_bounds-down-m c = let l = top c.in-Some.is c.highest.ensures in omega arith
+pub offset_bounds-derives-m : goal.offset_bounds-derives-m
+offset_bounds-derives-m c = let l = top c.in-Some.is c.highest.ensures in omega arith
 
-pub bounds-down-m : goal.bounds-down-m
-bounds-down-m c = (top c.in-Some.is c.highest.ensures).role
+pub bounds-derives-m : goal.bounds-derives-m
+bounds-derives-m c = (top c.in-Some.is c.highest.ensures).role
 
 pub loop-m-smaller : goal.loop-m-smaller
 loop-m-smaller c = let l = top c.in-Some.is c.highest.ensures in near_less c.without.result c.common-left.result l.role l.member c.loop-m.invariant c.without.ensures c.common-left.ensures
