@@ -1,7 +1,8 @@
 -- What the steps of the engine behind the views and the line managers promise each other. No promise of a public function speaks of these.
 use Rattle.std.specs.Prelude.{◌≡◌, ◌⊎◌, ◌↔◌, ◌≢◌, Bool, true, false, ◌&&◌, ◌||◌, List, ℕ, ◌<◌, length}
 use Rattle.sets.specs.Sets.{bit, ◌is_in◌, ◌are_in◌, same?}
-use Rattle.hierarchy.specs.Tables.{Tables, tables, row}
+use Rattle.hierarchy.specs.Tables.{Tables, row}
+use Rattle.hierarchy.specs.declared.working.Kept.{Kept}
 use Rattle.hierarchy.specs.Words.{Chain, Derives, Administrator, LineManager}
 use Rattle.hierarchy.specs.Views.{AreViews, InOrder, LiveLoops, manager_at}
 
@@ -42,46 +43,43 @@ pub record RightRows (table : List ℕ) (Own : ℕ → ℕ → Type 0) (reach : 
 pub data Founded (i a : List ℕ) : ℕ → Type 0 where
   founded : {x : ℕ} → ((y : ℕ) → Entry i a x y → Founded i a y) → Founded i a x
 
--- both tables are right so far; juniors of roles that are done are done, and no way down from these goes on for ever
-pub record Right (i a by_i down : List ℕ) (done : ℕ) : Type 0 where
-  pub i_rows : RightRows i (λ x z. x ≡ z) by_i done
-  pub a_rows : RightRows a (ByI i) down done
-  pub closed : (x y : ℕ) → x is_in done → Entry i a x y → y is_in done
-  pub ends : (x : ℕ) → x is_in done → Founded i a x
+-- While the walk goes on, row x of `derivers` has what x leads to by I alone, row x of `derives` what it leads to at all, and `manager` is
+-- room for a path. Both are right so far; juniors of roles that are done are done, and no way down from these goes on for ever.
+pub record Right (t : Tables) (kept : Kept) (done : ℕ) : Type 0 where
+  pub i_rows : RightRows t.i (λ x z. x ≡ z) kept.derivers done
+  pub a_rows : RightRows t.a (ByI t.i) kept.derives done
+  pub closed : (x y : ℕ) → x is_in done → Entry t.i t.a x y → y is_in done
+  pub ends : (x : ℕ) → x is_in done → Founded t.i t.a x
 
 -- x can be settled: its juniors are done
-pub record Ready (i a by_i down : List ℕ) (done x : ℕ) : Type 0 where
-  pub right : Right i a by_i down done
+pub record Ready (t : Tables) (kept : Kept) (done x : ℕ) : Type 0 where
+  pub right : Right t kept done
   pub role : x < 64
-  pub below : (y : ℕ) → Entry i a x y → y is_in done
+  pub below : (y : ℕ) → Entry t.i t.a x y → y is_in done
 
--- x is done too, and rightly
-pub record Finished (i a by_i down : List ℕ) (done x r : ℕ) : Type 0 where
-  pub right : Right i a by_i down r
+-- x is done too, and rightly; the path stands
+pub record Finished (t : Tables) (before kept : Kept) (done x r : ℕ) : Type 0 where
+  pub right : Right t kept r
   pub done_is : (y : ℕ) → bit r y ≡ (bit done y || same? x y)
+  pub path_is : kept.manager ≡ before.manager
 
 -- of the live roles these are done, and rightly; and there is room for a path
-pub record SoFar (live : ℕ) (i a by_i down path : List ℕ) (done : ℕ) : Type 0 where
-  pub right : Right i a by_i down done
-  pub part : done are_in live
-  pub places : length path ≡ 64
+pub record SoFar (t : Tables) (kept : Kept) (done : ℕ) : Type 0 where
+  pub right : Right t kept done
+  pub part : done are_in t.live
+  pub places : length kept.manager ≡ 64
 
 -- a walk down from root can start
-pub record Starts (live : ℕ) (i a by_i down path : List ℕ) (done root : ℕ) : Type 0 where
-  pub so_far : SoFar live i a by_i down path done
-  pub alive : root is_in live
+pub record Starts (t : Tables) (kept : Kept) (done root : ℕ) : Type 0 where
+  pub so_far : SoFar t kept done
+  pub alive : root is_in t.live
   pub fresh : bit done root ≡ false
 
 -- more are done than were; the root is, unless there is no order
-pub record Descended (live : ℕ) (i a by_i down path : List ℕ) (done root r : ℕ) : Type 0 where
-  pub so_far : SoFar live i a by_i down path r
+pub record Descended (t : Tables) (kept : Kept) (done root r : ℕ) : Type 0 where
+  pub so_far : SoFar t kept r
   pub more : done are_in r
-  pub stuck : bit r root ≡ false → InOrder (tables live i a) → ⊥
-
--- all live roles are done, or there is no order
-pub record Ordered (live : ℕ) (i a by_i down : List ℕ) (r : Bool) : Type 0 where
-  pub right : r ≡ true → Right i a by_i down live
-  pub stuck : r ≡ false → InOrder (tables live i a) → ⊥
+  pub stuck : bit r root ≡ false → InOrder t → ⊥
 
 -- r is whether the live roles are in order; down is then what they derive
 pub record FilledDown (t : Tables) (r : Bool) (down : List ℕ) : Type 0 where

@@ -2,7 +2,7 @@
 ghost use Rattle.std.specs.Prelude.{◌≡◌, ◌↔◌, ℕ, ◌<◌, length};
 ghost use Rattle.sets.specs.Sets.{◌is_in◌};
 ghost use Rattle.hierarchy.specs.Views.{Turned};
-ghost use Rattle.hierarchy.specs.Engine.{InRows, RowSettled, SoFar, Ready, Finished, Starts, Descended, Ordered, FilledDown, Marked};
+ghost use Rattle.hierarchy.specs.Engine.{InRows, RowSettled, Ready, Finished, Starts, Descended, FilledDown, Marked};
 
 use crate::tables::Tables;
 use crate::working::Kept;
@@ -32,9 +32,8 @@ fn settle(table: &[u64; 64], reach: &mut [u64; 64], x: usize, own: u64) -> u64
 
 // Settles x, whose juniors are done, first by I alone, then by A and from there by I; gives the roles that are done now.
 fn finish(t: &Tables, kept: &mut Kept, done: u64, x: usize) -> u64
-    requires { Ready t.now.i t.now.a kept.old.derivers kept.old.derives done x }
-    ensures finished { Finished t.now.i t.now.a kept.new.derivers kept.new.derives done x result }
-    ensures same { kept.new.manager ≡ kept.old.manager }
+    requires { Ready t.now kept.old done x }
+    ensures { Finished t.now kept.old kept.new done x result }
 {
     let row = settle(&t.i, &mut kept.derivers, x, single(x));
     settle(&t.a, &mut kept.derives, x, row);
@@ -45,8 +44,8 @@ fn finish(t: &Tables, kept: &mut Kept, done: u64, x: usize) -> u64
 // Fresh are the live roles it hasn't met: a junior neither done nor fresh is on the path, a loop, or doesn't live, and there it stops.
 // The path stands in the row of managers, and `above` is the place of its last role: there is no heap, and no other room.
 fn descend(t: &Tables, kept: &mut Kept, start: u64, root: usize) -> u64
-    requires { Starts t.now.live t.now.i t.now.a kept.old.derivers kept.old.derives kept.old.manager start root }
-    ensures { Descended t.now.live t.now.i t.now.a kept.new.derivers kept.new.derives kept.new.manager start root result }
+    requires { Starts t.now kept.old start root }
+    ensures { Descended t.now kept.new start root result }
 {
     let mut done = start;
     let mut fresh = without(minus(t.live, start), root);

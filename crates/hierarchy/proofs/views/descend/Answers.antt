@@ -41,7 +41,7 @@ pub finish-done-requires : goal.finish-done-requires
 finish-done-requires c = walk_ready c.loop-y.invariant c.union.result c.minus-waiting.result c.union.ensures c.minus-waiting.ensures (nobody c.in_default.is c.lowest.ensures)
 
 pub returns-then-above-eq0 : goal.returns-then-above-eq0
-returns-then-above-eq0 c = rw c.finish-done.ensures.same (walk_end c.loop-y.invariant c.finish-done.result c.finish-done.ensures.finished c.if-above-eq0.true)
+returns-then-above-eq0 c = walk_end c.loop-y.invariant c.finish-done.result c.finish-done.ensures c.if-above-eq0.true
 
 pub loop-y-preserved : goal.loop-y-preserved
-loop-y-preserved c = rw c.finish-done.ensures.same (walk_back c.loop-y.invariant c.finish-done.result c.finish-done.ensures.finished c.if-above-eq0.false)
+loop-y-preserved c = walk_back c.loop-y.invariant c.finish-done.result c.finish-done.ensures c.if-above-eq0.false
