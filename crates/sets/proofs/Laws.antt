@@ -99,6 +99,10 @@ minus_part s t d h e = (
       (true_or_false (bit s x)))),
 )
 
+-- 0 has no role
+pub no_role : {s : ℕ} → s ≡ 0 → NoRole s
+no_role z = record { none = λ x. ap (λ (n : ℕ). bit n x) z ∙ bit_zero x }
+
 -- ---- the lowest role
 
 pub bit_lowest : (k s : ℕ) → 0 < s → s < 2 ^ k → count_trailing_zeros k s is_in s
@@ -255,7 +259,7 @@ less_one (suc r) s (suc x) m low e =
 pub but_lowest_none : (s : ℕ) → s ≡ 0 → ButLowest s 0
 but_lowest_none s z = record {
   rest = λ r l x. absurd (false_no (ap (λ (n : ℕ). bit n r) z ∙ bit_zero r) l.member);
-  none = λ _. record { none = bit_zero };
+  none = λ _. no_role refl;
 }
 
 pub but_lowest_is : (s : ℕ) → ButLowest s (bit_and s (s - 1))
@@ -270,7 +274,7 @@ but_lowest_is s = record {
 
 pub but_lowest_unique : (s t u : ℕ) → s < 2 ^ 64 → ButLowest s t → ButLowest s u → t ≡ u
 but_lowest_unique s t u fs b c = dite (ℕ_discrete s 0)
-    (λ z. let n : NoRole s = record { none = λ x. ap (λ (k : ℕ). bit k x) z ∙ bit_zero x } in same_bits t u (λ x. (b.none n).none x ∙ sym ((c.none n).none x)))
+    (λ z. let n = no_role z in same_bits t u (λ x. (b.none n).none x ∙ sym ((c.none n).none x)))
     (λ z.
     let p : 0 < s = omega arith in
     let l : LowestRole s (count_trailing_zeros 64 s) = record { role = lowest_lt s p fs; member = bit_lowest 64 s p fs; least = λ x e. lowest_least 64 s x e } in

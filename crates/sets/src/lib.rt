@@ -13,10 +13,7 @@ ghost use Rattle.sets.specs.Sets.{bit, same?, ◌are_in◌, Lowest, ButLowest, H
 pub fn has(s: u64, r: usize) -> bool
     ensures { result ≡ bit s r }
 {
-    if r < 64 {
-        return (s >> r) & 1 == 1;
-    }
-    false
+    r < 64 && (s >> r) & 1 == 1
 }
 
 // The role r alone.
@@ -78,7 +75,7 @@ pub fn lowest(s: u64) -> Option<usize>
     if s == 0 {
         return None;
     }
-    Some(u64::trailing_zeros(s) as usize)
+    Some(s.trailing_zeros() as usize)
 }
 
 // The roles of s but the lowest: what a loop over s goes on with, without waiting for the lowest to be named.
@@ -98,7 +95,7 @@ pub fn highest(s: u64) -> Option<usize>
     if s == 0 {
         return None;
     }
-    Some(63 - u64::leading_zeros(s) as usize)
+    Some(63 - s.leading_zeros() as usize)
 }
 
 // The roles of a set one by one, the lowest first: what a `for` over a set goes through.
@@ -132,5 +129,5 @@ impl Iterator for Roles {
 pub fn size(s: u64) -> u32
     ensures { result ≡ ones s }
 {
-    u64::count_ones(s)
+    s.count_ones()
 }
