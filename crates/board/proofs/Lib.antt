@@ -7,4 +7,5 @@ pub mod Rules
 pub mod Looking
 pub mod Fitting
 pub mod Asking
+pub mod Answering
 pub mod Reading
