@@ -1,7 +1,7 @@
 -- An answer in one number, as a run's row of answers holds it and as the functions for programs in C give it: the refusal number, the place
 -- where it arose, a value, and by request 3 who offends and why.
 use Rattle.std.specs.Prelude.{ℕ, ◌+◌, ◌*◌}
-use Rattle.board.specs.declared.answers.Answer.{Answer}
+use Rattle.board.specs.Answers.{Answer}
 
 -- The number in bits 0 to 7, the place in bits 8 to 15, the value from bit 16 on.
 abbrev pub answer : ℕ → ℕ → ℕ → ℕ
