@@ -20,7 +20,7 @@ use hierarchy::working::Kept;
 // board where it is wrong is not sound. `rights` has a byte for each role, with the right to give command 1 in its lowest bit and so on; a
 // board is not sound where a role that isn't live has one, or where there are more than the five.
 #[repr(C)]
-#[derive(Clone, Copy)]
+#[derive(Clone, Copy, PartialEq, Eq)]
 pub struct Board {
     pub tables: Tables,
     pub kept: Kept,

@@ -3,7 +3,7 @@
 // Row x of `i` is the set of the juniors that role x has by I, row x of `a` of those by A; an IA edge is in both. `live` is the set of the
 // live roles.
 #[repr(C)]
-#[derive(Clone, Copy)]
+#[derive(Clone, Copy, PartialEq, Eq)]
 pub struct Tables {
     pub live: u64,
     pub i: [u64; 64],
