@@ -1,5 +1,5 @@
 -- Which rights `founding?` holds of: the founding board's, byte for byte, and no others. Assumes nothing.
-use mathlib.Core.Path.{◌≡◌, refl, ap}
+use mathlib.Core.Path.{◌≡◌, refl, sym, ap, ◌∙◌}
 use mathlib.Core.Bool.{Bool, true, false, not}
 use mathlib.Core.Logic.{◌≢◌, dite}
 use mathlib.Core.List.{List}
@@ -7,9 +7,11 @@ use Prim.Native.Nat.{ℕ, zero, suc, ◌≤◌, ◌<◌, zero-le}
 use native.Mathlib.Decide.{ℕ_discrete}
 use native.Mathlib.Omega.{arith}
 use lib.Dec.{eqb}
-use lib.ListN.{length, replicate}
-use lib.Seq.{ext_get_or}
+use lib.ListN.{length, drop, replicate, length-drop}
+use lib.Seq.{ext_get_or, get_or-drop}
 use borrow.Author.Tests.{eq-eqb, ne_eqb}
+use Rattle.std.specs.Bool.{MatchBool}
+use Rattle.std.specs.List.{AllWithin, HoldsAt}
 use Rattle.sets.specs.Sets.{bit, ◌is_in◌}
 use Rattle.sets.proofs.Bools.{false_no}
 use Rattle.board.specs.Rights.{rights_of, founding_rights, RightsFit}
@@ -49,6 +51,19 @@ module _ (rights : List ℕ) where
 
   pub founding_only : length rights ≡ 64 → founding? rights ≡ true → rights ≡ founding_rights
   founding_only rows e = ext_get_or 0 rights founding_rights rows (λ x l. founding_at e x (omega arith))
+
+-- the test by parts: role 0 has all rights, and of the rows behind its one all are 0, or some one isn't
+pub founding_rest : (rights : List ℕ) → length rights ≡ 64 → rights_of rights 0 ≡ 31
+    → (r : Bool) → MatchBool r (AllWithin (λ x. x ≡ 0) (drop 1 rights) 0 (length (drop 1 rights))) ((k : ℕ) × (k < length (drop 1 rights)) × HoldsAt (λ x. x ≢ 0) (drop 1 rights) k)
+    → r ≡ founding? rights
+founding_rest rights rows root true h = sym (founding_yes rights same)
+  where
+    same : (x : ℕ) → x < 64 → rights_of rights x ≡ rights_of founding_rights x
+    same zero l = root
+    same (suc x) l = sym (get_or-drop 1 rights x 0 ∙ ap (rights_of rights) (omega arith)) ∙ h x 0 zero-le (omega (arith, length-drop 1 rights)) ∙ sym (founding_other (suc x) (omega arith))
+founding_rest rights rows root false h =
+    sym (founding_no rights (suc h.0) (omega (arith, length-drop 1 rights, h.1))
+    (λ e. h.2 0 (get_or-drop 1 rights h.0 0 ∙ ap (rights_of rights) (omega arith) ∙ e ∙ founding_other (suc h.0) (omega arith))))
 
 pub founding_itself : founding? founding_rights ≡ true
 founding_itself = founding_yes founding_rights (λ x l. refl)

@@ -12,29 +12,23 @@ use lib.ListN.{length, take, drop}
 use borrow.Author.Tests.{eq-eqb, ne_eqb}
 use Rattle.sets.specs.Sets.{bit}
 use Rattle.sets.proofs.Bools.{cond_elim}
-use Rattle.hierarchy.specs.Tables.{Tables, tables, kind}
+use Rattle.hierarchy.specs.Tables.{Tables}
 use Rattle.hierarchy.specs.First.{First}
 use Rattle.board.specs.Asked.{misnamed}
 use Rattle.board.proofs.Asking.{asked_0, asked_2, asked_3, answer_refused, answer_done}
 use Rattle.writer.specs.Files.{from, edge?, edge_bytes, kind_at, file_of, stretch_of, start_of}
-use Rattle.writer.specs.Parts.{kinds_in, PlaceAnswer}
+use Rattle.writer.specs.Parts.{PlaceAnswer}
 use Rattle.writer.specs.Writing.{start_or_none, Stands}
 use Rattle.writer.proofs.Ascending.{from_short}
 use Rattle.writer.proofs.EdgeBytes.{records_length, edge_few}
 use Rattle.writer.proofs.Counts.{ones_from}
 use Rattle.writer.proofs.InThree.{up_to_it, stretch_is, stretch_inside}
 
--- a count of the edges below a senior says where its records start; the kinds are a matter of the tables, whoever lives
-pub count_at : (live : ℕ) (i a : List ℕ) (n s size : ℕ) → n ≡ length (from (s * 64) 0 (edge? (kinds_in i a))) → live < 2 ^ 64 → size ≡ ones live
-    → size + 3 * n ≡ start_of (tables live i a) s
-unfolding start_of edge_bytes kind_at kind
-count_at live i a n s size count fits is =
-    let kinds = kind_at (tables live i a) in
-    ap₂ ◌+◌ (is ∙ sym (ones_from 64 live fits)) (ap (λ (k : ℕ). 3 * k) count ∙ sym (records_length kinds (from (s * 64) 0 (edge? kinds))))
-
--- a span of nothing, with a number
-pub spanned : (Answer : ℕ → ℕ → ℕ → Type 0) {number m start len : ℕ} → (m ≡ number) × (start ≡ 0) × (len ≡ 0) → Answer number 0 0 → Answer m start len
-spanned Answer e a = rw (e.0, e.1, e.2) a
+-- a count of the edges below a senior says where its records start
+pub count_at : (t : Tables) (n s size : ℕ) → n ≡ length (from (s * 64) 0 (edge? (kind_at t))) → t.live < 2 ^ 64 → size ≡ ones t.live → size + 3 * n ≡ start_of t s
+unfolding start_of edge_bytes
+count_at t n s size count fits is =
+    ap₂ ◌+◌ (is ∙ sym (ones_from 64 t.live fits)) (ap (λ (k : ℕ). 3 * k) count ∙ sym (records_length (kind_at t) (from (s * 64) 0 (edge? (kind_at t)))))
 
 module _ (t : Tables) (role : ℕ) where
   pub starts_low : role ≤ 64 → start_of t role ≤ 12352

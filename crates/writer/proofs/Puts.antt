@@ -2,13 +2,15 @@
 use mathlib.Core.Path.{◌≡◌, refl, sym, ap, ap₂, ◌∙◌, subst}
 use mathlib.Core.Bool.{Bool, true, false, not, ◌&&◌, and-true, and-false}
 use mathlib.Core.Logic.{⊎_elim}
-use mathlib.Core.List.{List, [], ◌∷◌, ◌++◌, append_assoc}
-use Prim.Native.Nat.{ℕ, suc, ◌+◌, ◌-◌, ◌≤◌, ◌<◌, zero-le}
+use mathlib.Core.List.{List, [], ◌∷◌, ◌++◌, append_assoc, append-nil}
+use Prim.Native.Nat.{ℕ, suc, ◌+◌, ◌-◌, ◌/◌, ◌%◌, ◌≤◌, ◌<◌, zero-le}
 use native.Mathlib.Numerals.{add-one}
 use native.Mathlib.Omega.{arith}
 use lib.ListN.{length, get_or, take, drop, set, length-append, length-drop, take-append-drop}
 use lib.Seq.{drop-cons, set-append_seam, append_snoc, take-append_seam, drop-append_seam, drop-append-le, drop-drop, length-take-le}
 use borrow.Rule.Slice.PartMut.{mid_of, post_of, put_mid}
+use Rattle.std.proofs.lemmas.List.{drop_all}
+use Rattle.std.specs.Int.{w16, to_le_bytes}
 use Rattle.sets.specs.Sets.{bit, same?, LowestRole, NoRole}
 use Rattle.sets.proofs.Bools.{lt_or_ge, not_so, false_no}
 use Rattle.sets.proofs.Laws.{same_eq, same_self}
@@ -28,22 +30,6 @@ put_more bs d out k b p e l =
     ∙ set-append_seam bs (get_or d (length bs) 0) (drop (suc (length bs)) d) b
     ∙ sym (append_snoc bs b (drop (suc (length bs)) d))
     ∙ ap (λ (n : ℕ). bs ++ (b ∷ []) ++ drop n d) (sym (length-append bs (b ∷ []) ∙ add-one (length bs)))
-
--- three bytes more
-pub put_three : (bs d out : List ℕ) (k x y z : ℕ) → Put bs d out → k ≡ length bs → length bs + 3 ≤ length d
-    → Put (bs ++ (x ∷ y ∷ z ∷ [])) d (set (set (set out k x) (k + 1) y) (k + 2) z)
-put_three bs d out k x y z p e l =
-    let one = put_more bs d out k x p e (omega arith) in
-    let two = put_more (bs ++ (x ∷ [])) d (set out k x) (k + 1) y one (omega (arith, length-append bs (x ∷ []))) (omega (arith, length-append bs (x ∷ []))) in
-    let two' = subst (λ (l : List ℕ). Put l d (set (set out k x) (k + 1) y)) (append_assoc bs (x ∷ []) (y ∷ [])) two in
-    subst (λ (l : List ℕ). Put l d (set (set (set out k x) (k + 1) y) (k + 2) z)) (append_assoc bs (x ∷ y ∷ []) (z ∷ []))
-    (put_more (bs ++ (x ∷ y ∷ [])) d (set (set out k x) (k + 1) y) (k + 2) z two' (omega (arith, length-append bs (x ∷ y ∷ []))) (omega (arith, length-append bs (x ∷ y ∷ []))))
-
-pub put_six : (d : List ℕ) (x y z u v w : ℕ) → 6 ≤ length d → Put (x ∷ y ∷ z ∷ u ∷ v ∷ w ∷ []) d (set (set (set (set (set (set d 0 x) 1 y) 2 z) 3 u) 4 v) 5 w)
-put_six d x y z u v w l = put_three (x ∷ y ∷ z ∷ []) d (set (set (set d 0 x) 1 y) 2 z) 3 u v w (put_three [] d d 0 x y z refl refl (omega arith)) refl l
-
-pub put_two : (d : List ℕ) (x y : ℕ) → 2 ≤ length d → Put (x ∷ y ∷ []) d (set (set d 0 x) 1 y)
-put_two d x y l = put_more (x ∷ []) d (set d 0 x) 1 y (put_more [] d d 0 x refl refl (omega arith)) refl l
 
 -- a second part behind the first
 pub put_behind : (bs cs d out part : List ℕ) → Put bs d out → Put cs (drop (length bs) out) part → Put (bs ++ cs) d (take (length bs) out ++ part)
@@ -71,9 +57,16 @@ put_part bs cs d out part a k p e l m q =
         ∙ append_assoc cs (drop (length cs) (mid_of a k out)) (post_of a k out)
         ∙ ap (λ (l : List ℕ). cs ++ l) (sym (drop-append-le (length cs) (mid_of a k out) (post_of a k out) enough) ∙ ap (drop (length cs)) (take-append-drop k (drop a out)))
 
+-- the same where the second part fills what is lent for it
+pub put_copied : (bs cs d out part : List ℕ) (a k : ℕ) → Put bs d out → a ≡ length bs → length cs ≡ k → a + k ≤ length out → part ≡ cs
+    → Put (bs ++ cs) d (put_mid a k out part)
+put_copied bs cs d out part a k p e l m q =
+    put_part bs cs d out part a k p e (omega arith) m
+    (q ∙ sym (append-nil cs) ∙ ap (λ (r : List ℕ). cs ++ r) (sym (drop_all (length cs) (mid_of a k out) (omega (arith, length-take-le k (drop a out) (omega (arith, length-drop a out)))))))
+
 -- a first part in the n bytes that are lent for it, and a last one in all that lie behind
-pub put_first : (bs d part : List ℕ) (n : ℕ) → n ≡ length bs → n ≤ length d → Put bs (mid_of 0 (n - 0) d) part → Put bs d (put_mid 0 (n - 0) d part)
-put_first bs d part n e l q = put_part [] bs d d part 0 (n - 0) refl refl (omega arith) (omega arith) q
+pub put_first : (bs d part : List ℕ) (n : ℕ) → n ≡ length bs → n ≤ length d → Put bs (take n d) part → Put bs d (part ++ drop n d)
+put_first bs d part n e l q = put_part [] bs d d part 0 n refl refl (omega arith) (omega arith) q
 
 pub put_last : (bs cs d out part : List ℕ) (a : ℕ) → Put bs d out → a ≡ length bs → a + length cs ≤ length d
     → Put cs (mid_of a (length out - a) out) part → Put (bs ++ cs) d (put_mid a (length out - a) out part)
@@ -83,6 +76,11 @@ put_last bs cs d out part a p e l q =
 
 pub rest_long : (a : ℕ) (out : List ℕ) → length (mid_of a (length out - a) out) ≡ length out - a
 rest_long a out = length-take-le (length out - a) (drop a out) (omega (arith, length-drop a out))
+
+-- ---- two bytes of a number
+
+pub low_high : (n : ℕ) → n < 65536 → to_le_bytes w16 n ≡ n % 256 ∷ n / 256 ∷ []
+low_high n l = ap (λ (b : ℕ). n % 256 ∷ b ∷ []) (omega arith)
 
 -- ---- the members of a set, from the lowest on: rest has those from next on
 

@@ -1,73 +1,92 @@
 -- The loops that put role bytes, rights bytes and edge records, and the parts of a file put one behind the other. Assumes nothing.
 use mathlib.Core.Path.{◌≡◌, refl, sym, ap, ap₂, ◌∙◌, subst, subst₂}
-use mathlib.Core.Bool.{Bool, true, false, cond, not, ◌&&◌, ◌||◌}
-use mathlib.Core.List.{List, [], ◌∷◌, ◌++◌, map, append_assoc, map-append, map-id}
+use mathlib.Core.Bool.{Bool, true, false, cond, not, ◌||◌}
+use mathlib.Core.List.{List, [], ◌∷◌, ◌++◌, map, append_assoc, map-id}
 use Prim.Native.Nat.{ℕ, suc, ◌+◌, ◌-◌, ◌*◌, ◌/◌, ◌%◌, ◌≤◌, ◌<◌, zero-le}
 use native.Mathlib.Nat.{zero-add, le_refl}
 use native.Mathlib.Omega.{arith}
 use lib.Dec.{eqb}
-use lib.ListN.{length, set, length-append, length-map, length-set}
+use lib.ListN.{length, take, drop, set, length-append, length-drop, length-map}
+use lib.Seq.{take_all}
 use borrow.Rule.Slice.PartMut.{mid_of, put_mid}
-use Rattle.sets.specs.Sets.{bit, same?, LowestRole, NoRole}
+use Rattle.std.specs.Int.{w16, to_le_bytes}
+use Rattle.std.specs.List.{AllZip}
+use Rattle.std.proofs.lemmas.Slice.Zip.{AllZip-long, AllZip-map, all_zipped_more}
+use Rattle.sets.specs.Sets.{bit, Taken, NoRole}
 use Rattle.hierarchy.specs.Tables.{Tables, row, kind_of, kind}
 use Rattle.board.specs.Rights.{rights_of}
-use Rattle.frames.specs.Frames.{trailer, rights_trailer, edges_back}
+use Rattle.frames.specs.Frames.{byte, trailer, rights_trailer, edges_back}
 use Rattle.frames.specs.Framing.{trailer_of}
-use Rattle.frames.proofs.Bytes.{whole}
+use Rattle.frames.proofs.Bytes.{whole, bytes, take_bytes}
 use Rattle.writer.specs.Files.{from, edge?, edge_bytes, records, kind_at, file_of}
-use Rattle.writer.specs.Parts.{Put, last_six, row_bytes, tail_of, tail_length, TailRoom, Room}
+use Rattle.writer.specs.Parts.{Put, PutEach, last_six, row_bytes, tail_of, tail_length, TailRoom, Room}
 use Rattle.writer.proofs.Ascending.{from_mono, from_short}
 use Rattle.writer.proofs.EdgeBytes.{records_append, edge_split, edge_same, edge_few, edge_mono, file_whole}
-use Rattle.writer.proofs.Puts.{put_length, put_more, put_two, put_three, put_part, put_first, put_last, rest_long, Taking, taking_start, taking_next, taking_turn, taking_end}
+use Rattle.writer.proofs.Puts.{put_length, put_more, put_copied, low_high, put_part, put_first, put_last, rest_long, Taking, taking_start, taking_next, taking_turn, taking_end}
 
--- ---- a byte for each live role: g says which of a role, itself or its rights
+-- ---- a byte for each live role
 
-pub record EachPut (g : ℕ → ℕ) (live : ℕ) (d out : List ℕ) (rest k : ℕ) : Type 0 where
+pub record EachPut (Gives : ℕ → ℕ → Type 0) (live : ℕ) (d out : List ℕ) (rest k : ℕ) : Type 0 where
   pub next : ℕ
   pub taking : Taking (bit live) 0 rest next
-  pub put : Put (map g (from next 0 (bit live))) d out
-  pub count : k ≡ length (from next 0 (bit live))
+  pub bytes : List ℕ
+  pub each : AllZip Gives (from next 0 (bit live)) bytes
+  pub put : Put bytes d out
+  pub count : k ≡ length bytes
 
-pub each_put_start : (g : ℕ → ℕ) (live : ℕ) (d : List ℕ) → EachPut g live d d live 0
+pub each_put_start : (Gives : ℕ → ℕ → Type 0) (live rest k : ℕ) (d : List ℕ) → rest ≡ live → k ≡ 0 → EachPut Gives live d d rest k
 unfolding from
-each_put_start g live d = record { next = 0; taking = taking_start (bit live) 0 live (λ y l. ap (bit live) (sym (zero-add y))); put = refl; count = refl }
+each_put_start Gives live rest k d e z = record {
+  next = 0;
+  taking = taking_start (bit live) 0 rest (λ y l. ap₂ bit e (sym (zero-add y)));
+  bytes = [];
+  each = tt;
+  put = refl;
+  count = z;
+}
 
-module _ {g : ℕ → ℕ} {live rest k : ℕ} {d out : List ℕ} (room : length (from 64 0 (bit live)) ≤ length d) (inv : EachPut g live d out rest k) where
+module _ {Gives : ℕ → ℕ → Type 0} {live rest k : ℕ} {d out : List ℕ} (room : length (from 64 0 (bit live)) ≤ length d) (inv : EachPut Gives live d out rest k) where
+  as_many : length inv.bytes ≡ length (from inv.next 0 (bit live))
+  as_many = AllZip-long Gives (from inv.next 0 (bit live)) inv.bytes inv.each
+
   pub each_put_same : length out ≡ length d
-  each_put_same =
-      put_length (map g (from inv.next 0 (bit live))) d out inv.put
-      (omega (arith, length-map (from inv.next 0 (bit live)) g, from_mono inv.next 64 0 (bit live) inv.taking.small))
+  each_put_same = put_length inv.bytes d out inv.put (omega (arith, as_many, from_mono inv.next 64 0 (bit live) inv.taking.small))
 
-  pub each_put_few : k ≤ 64
-  each_put_few = omega (arith, inv.count, from_short inv.next 0 (bit live), inv.taking.small)
+  pub each_put_end : NoRole rest → PutEach Gives (from 64 0 (bit live)) d out
+  each_put_end n = (inv.bytes, subst (λ (l : List ℕ). AllZip Gives l inv.bytes) (sym (taking_end inv.taking n)) inv.each, inv.put)
 
-  pub each_put_end : NoRole rest → Put (map g (from 64 0 (bit live))) d out
-  each_put_end n = subst (λ (l : List ℕ). Put (map g l) d out) (sym (taking_end inv.taking n)) inv.put
-
-  module _ {r : ℕ} (lowest : LowestRole rest r) where
+  module _ {r rest' : ℕ} (t : Taken rest r rest') where
     grows : from (suc r) 0 (bit live) ≡ from inv.next 0 (bit live) ++ (r ∷ [])
-    grows = taking_next inv.taking lowest ∙ ap (λ (x : ℕ). from inv.next 0 (bit live) ++ (x ∷ [])) (zero-add r)
+    grows = taking_next inv.taking t.lowest ∙ ap (λ (x : ℕ). from inv.next 0 (bit live) ++ (x ∷ [])) (zero-add r)
 
-    fits : length (from inv.next 0 (bit live)) < length d
-    fits = omega (arith, ap length grows, length-append (from inv.next 0 (bit live)) (r ∷ []), from_mono (suc r) 64 0 (bit live) lowest.role)
+    fits : length inv.bytes < length d
+    fits = omega (arith, as_many, ap length grows, length-append (from inv.next 0 (bit live)) (r ∷ []), from_mono (suc r) 64 0 (bit live) t.lowest.role)
 
-    pub each_put_room : k < length out
-    each_put_room = omega (arith, each_put_same, inv.count, fits)
+    pub each_put_room : (j : ℕ) → j ≡ k → j < length out
+    each_put_room j e = omega (arith, each_put_same, inv.count, fits)
 
-    pub each_put_turn : (rest' : ℕ) → ((y : ℕ) → bit rest' y ≡ (bit rest y && not (same? r y))) → EachPut g live d (set out k (g r)) rest' (k + 1)
-    each_put_turn rest' less =
-        let old : List ℕ = from inv.next 0 (bit live) in
-        let long : length (map g old) ≡ length old = length-map old g in record {
-          next = suc r;
-          taking = taking_turn inv.taking lowest rest' less;
-          put = subst (λ (l : List ℕ). Put l d (set out k (g r))) (sym (ap (map g) grows ∙ map-append g old (r ∷ [])))
-              (put_more (map g old) d out k (g r) inv.put (omega (arith, inv.count)) (omega (arith, fits)));
-          count = omega (arith, inv.count, ap length grows, length-append old (r ∷ []));
-        }
+    pub each_put_turn : (j b k' : ℕ) → j ≡ k → Gives r b → k' ≡ k + 1 → EachPut Gives live d (set out j b) rest' k'
+    each_put_turn j b k' e g more = record {
+      next = suc r;
+      taking = taking_turn inv.taking t.lowest rest' t.rest_is;
+      bytes = inv.bytes ++ (b ∷ []);
+      each = subst (λ (l : List ℕ). AllZip Gives l (inv.bytes ++ (b ∷ []))) (sym grows) (all_zipped_more Gives (from inv.next 0 (bit live)) inv.bytes r b inv.each g);
+      put = put_more inv.bytes d out j b inv.put (e ∙ inv.count) fits;
+      count = omega (arith, inv.count, length-append inv.bytes (b ∷ []));
+    }
 
-pub roles_put_end : {live rest k : ℕ} {d out : List ℕ} → length (from 64 0 (bit live)) ≤ length d → EachPut (λ x. x) live d out rest k → NoRole rest
-    → Put (from 64 0 (bit live)) d out
-roles_put_end {live} {d = d} {out = out} room inv n = subst (λ (l : List ℕ). Put l d out) (map-id (from 64 0 (bit live))) (each_put_end room inv n)
+-- the bytes are what a function of the roles gives
+pub each_is : (g : ℕ → ℕ) {Gives : ℕ → ℕ → Type 0} (xs : List ℕ) {d out : List ℕ} → ((x y : ℕ) → Gives x y → y ≡ g x) → PutEach Gives xs d out → Put (map g xs) d out
+each_is g {Gives} xs {d} {out} h p = subst (λ (l : List ℕ). Put l d out) (AllZip-map g xs p.0 (weaker xs p.0 p.1)) p.2
+  where
+    weaker : (xs ys : List ℕ) → AllZip Gives xs ys → AllZip (λ x y. y ≡ g x) xs ys
+    weaker [] [] z = tt
+    weaker [] (y ∷ ys) z = z
+    weaker (x ∷ xs) [] z = z
+    weaker (x ∷ xs) (y ∷ ys) z = (h x y z.0, weaker xs ys z.1)
+
+pub each_itself : {Gives : ℕ → ℕ → Type 0} (xs : List ℕ) {d out : List ℕ} → ((x y : ℕ) → Gives x y → y ≡ x) → PutEach Gives xs d out → Put xs d out
+each_itself xs {d} {out} h p = subst (λ (l : List ℕ). Put l d out) (map-id xs) (each_is (λ x. x) xs h p)
 
 -- ---- the edge records of senior x, by its rows
 
@@ -86,11 +105,11 @@ pub record RowPut (x i a : ℕ) (d out : List ℕ) (rest k : ℕ) : Type 0 where
   pub put : Put (edge_bytes (row_kinds i a) next (x * 64)) d out
   pub count : k ≡ length (edge_bytes (row_kinds i a) next (x * 64))
 
-pub row_put_start : (x i a rest : ℕ) (d : List ℕ) → ((y : ℕ) → bit rest y ≡ (bit i y || bit a y)) → RowPut x i a d d rest 0
+pub row_put_start : (x i a s rest : ℕ) (d : List ℕ) → rest ≡ s → ((y : ℕ) → bit s y ≡ (bit i y || bit a y)) → RowPut x i a d d rest 0
 unfolding from edge_bytes records
-row_put_start x i a rest d h = record {
+row_put_start x i a s rest d e h = record {
   next = 0;
-  taking = taking_start (edge? (row_kinds i a)) (x * 64) rest (λ y l. let m : (x * 64 + y) % 64 ≡ y = omega arith in rw m (h y ∙ sym (kind_some (bit i y) (bit a y))));
+  taking = taking_start (edge? (row_kinds i a)) (x * 64) rest (λ y l. let m : (x * 64 + y) % 64 ≡ y = omega arith in rw m (ap (λ (n : ℕ). bit n y) e ∙ h y ∙ sym (kind_some (bit i y) (bit a y))));
   put = refl;
   count = refl;
 }
@@ -112,14 +131,14 @@ module _ {x i a rest k : ℕ} {d out : List ℕ} (room : length (row_bytes x i a
   pub row_put_end : NoRole rest → (k ≡ length (row_bytes x i a)) × Put (row_bytes x i a) d out
   row_put_end n = (inv.count ∙ ap length (ended n), subst (λ (l : List ℕ). Put l d out) (ended n) inv.put)
 
-  module _ {r : ℕ} (lowest : LowestRole rest r) where
+  module _ {r rest' : ℕ} (t : Taken rest r rest') where
     -- the three bytes of junior r
     more : edge_bytes (row_kinds i a) (suc r) (x * 64) ≡ edge_bytes (row_kinds i a) inv.next (x * 64) ++ (x ∷ r ∷ kind_of (bit i r) (bit a r) ∷ [])
     unfolding edge_bytes records
     more =
-        let s : (x * 64 + r) / 64 ≡ x = omega (arith, lowest.role) in
-        let j : (x * 64 + r) % 64 ≡ r = omega (arith, lowest.role) in
-        ap (records (row_kinds i a)) (taking_next inv.taking lowest)
+        let s : (x * 64 + r) / 64 ≡ x = omega (arith, t.lowest.role) in
+        let j : (x * 64 + r) % 64 ≡ r = omega (arith, t.lowest.role) in
+        ap (records (row_kinds i a)) (taking_next inv.taking t.lowest)
         ∙ records_append (row_kinds i a) (from inv.next (x * 64) (edge? (row_kinds i a))) ((x * 64 + r) ∷ [])
         ∙ rw (s, j)
 
@@ -130,19 +149,19 @@ module _ {x i a rest k : ℕ} {d out : List ℕ} (room : length (row_bytes x i a
           arith,
           ap length more,
           length-append (edge_bytes (row_kinds i a) inv.next (x * 64)) (x ∷ r ∷ kind_of (bit i r) (bit a r) ∷ []),
-          edge_mono (suc r) 64 (x * 64) (row_kinds i a) lowest.role,
+          edge_mono (suc r) 64 (x * 64) (row_kinds i a) t.lowest.role,
         )
 
     pub row_put_room : k + 3 ≤ length out
     row_put_room = omega (arith, row_put_same, inv.count, triple_fits)
 
-    pub row_put_turn : (rest' : ℕ) → ((y : ℕ) → bit rest' y ≡ (bit rest y && not (same? r y)))
-        → RowPut x i a d (set (set (set out k x) (k + 1) r) (k + 2) (kind_of (bit i r) (bit a r))) rest' (k + 3)
-    row_put_turn rest' less = record {
+    pub row_put_turn : (part : List ℕ) (n z : ℕ) → n ≡ 3 → z ≡ kind_of (bit i r) (bit a r) → part ≡ x ∷ r ∷ z ∷ [] → RowPut x i a d (put_mid k n out part) rest' (k + 3)
+    row_put_turn part n z w g e = record {
       next = suc r;
-      taking = taking_turn inv.taking lowest rest' less;
-      put = subst (λ (l : List ℕ). Put l d (set (set (set out k x) (k + 1) r) (k + 2) (kind_of (bit i r) (bit a r)))) (sym more)
-          (put_three (edge_bytes (row_kinds i a) inv.next (x * 64)) d out k x r (kind_of (bit i r) (bit a r)) inv.put inv.count triple_fits);
+      taking = taking_turn inv.taking t.lowest rest' t.rest_is;
+      put = subst (λ (l : List ℕ). Put l d (put_mid k n out part)) (sym more)
+          (put_copied (edge_bytes (row_kinds i a) inv.next (x * 64)) (x ∷ r ∷ kind_of (bit i r) (bit a r) ∷ []) d out part k n inv.put inv.count (sym w) (omega (arith, row_put_room))
+          (e ∙ ap (λ (k : ℕ). x ∷ r ∷ k ∷ []) g));
       count = omega (arith, inv.count, ap length more, length-append (edge_bytes (row_kinds i a) inv.next (x * 64)) (x ∷ r ∷ kind_of (bit i r) (bit a r) ∷ []));
     }
 
@@ -202,14 +221,25 @@ module _ {t : Tables} {d out : List ℕ} {at x : ℕ} (room : length (edge_bytes
 
 -- ---- what lies behind the edge records
 
-pub six_left : (d : List ℕ) (x y : ℕ) → 8 ≤ length d → let two = set (set d 0 x) 1 y in 6 ≤ length (mid_of 2 (length two - 2) two)
-six_left d x y l = omega (arith, rest_long 2 (set (set d 0 x) 1 y), length-set (set d 0 x) 1 y, length-set d 0 x)
+pub last_six_put : (d : List ℕ) (e r : ℕ) (mark x y z : List ℕ) → e < 65536 → r < 65536 → length mark ≡ 2 → 6 ≤ length d
+    → x ≡ to_le_bytes w16 e → y ≡ to_le_bytes w16 r → z ≡ mark
+    → Put (last_six e r mark) d (put_mid 4 2 (put_mid 2 2 (x ++ drop 2 d) y) z)
+unfolding last_six bytes
+last_six_put d e r mark x y z le lr two l ex ey ez =
+    let one = ap (λ (b : List ℕ). b ++ drop 2 d) (ex ∙ low_high e le) in
+    let fits : length (x ++ drop 2 d) ≡ length d = ap length one ∙ omega (arith, length-drop 2 d) in
+    let next = put_copied (e % 256 ∷ e / 256 ∷ []) (r % 256 ∷ r / 256 ∷ []) d (x ++ drop 2 d) y 2 2 one refl refl (omega arith) (ey ∙ low_high r lr) in
+    let fit : length (put_mid 2 2 (x ++ drop 2 d) y) ≡ length d = put_length (e % 256 ∷ e / 256 ∷ r % 256 ∷ r / 256 ∷ []) d (put_mid 2 2 (x ++ drop 2 d) y) next (omega arith) in
+    put_copied (e % 256 ∷ e / 256 ∷ r % 256 ∷ r / 256 ∷ []) (byte mark 0 ∷ byte mark 1 ∷ []) d (put_mid 2 2 (x ++ drop 2 d) y) z 4 2 next refl refl (omega arith) (ez ∙ both mark two)
+  where
+    both : (m : List ℕ) → length m ≡ 2 → m ≡ byte m 0 ∷ byte m 1 ∷ []
+    both m e = sym (take_all 2 m (omega arith)) ∙ take_bytes 2 m 0 (omega arith)
 
-pub rights_trailer_put : (d : List ℕ) (h e r : ℕ) → 8 ≤ length d → (part : List ℕ) → let two = set (set d 0 (h % 256)) 1 (h / 256) in
+pub rights_trailer_put : (d : List ℕ) (h e r : ℕ) (x part : List ℕ) → 8 ≤ length d → h < 65536 → x ≡ to_le_bytes w16 h → let two = x ++ drop 2 d in
     Put (last_six e r (72 ∷ 82 ∷ [])) (mid_of 2 (length two - 2) two) part → Put (rights_trailer h e r) d (put_mid 2 (length two - 2) two part)
 unfolding rights_trailer last_six
-rights_trailer_put d h e r l part p =
-    put_last (h % 256 ∷ h / 256 ∷ []) (last_six e r (72 ∷ 82 ∷ [])) d (set (set d 0 (h % 256)) 1 (h / 256)) part 2 (put_two d (h % 256) (h / 256) (omega arith)) refl l p
+rights_trailer_put d h e r x part l lh ex p =
+    put_last (h % 256 ∷ h / 256 ∷ []) (last_six e r (72 ∷ 82 ∷ [])) d (x ++ drop 2 d) part 2 (ap (λ (b : List ℕ). b ++ drop 2 d) (ex ∙ low_high h lh)) refl l p
 
 tail_long : (plain : Bool) (live : ℕ) (rights : List ℕ) (roles edges : ℕ) → roles ≡ length (from 64 0 (bit live)) → length (tail_of plain live rights roles edges) ≡ tail_length plain roles
 unfolding tail_of tail_length trailer_of trailer rights_trailer
@@ -239,12 +269,12 @@ module _ {live roles edges : ℕ} {plain : Bool} {d : List ℕ} (room : TailRoom
     unfolding tail_length
     rights_fit = (omega (arith, room.role_bytes, from_short 64 0 (bit live)), rw is at room.enough)
 
-    module _ (rights p : List ℕ) (first : Put (map (rights_of rights) (from 64 0 (bit live))) (mid_of 0 (roles - 0) d) p) where
+    module _ (rights p : List ℕ) (first : Put (map (rights_of rights) (from 64 0 (bit live))) (take roles d) p) where
       abbrev hs : List ℕ
       hs = map (rights_of rights) (from 64 0 (bit live))
 
       abbrev held : List ℕ
-      held = put_mid 0 (roles - 0) d p
+      held = p ++ drop roles d
 
       held_are : roles ≡ length hs
       held_are = room.role_bytes ∙ sym (length-map (from 64 0 (bit live)) (rights_of rights))
@@ -267,8 +297,8 @@ module _ {live roles edges : ℕ} {plain : Bool} {d : List ℕ} (room : TailRoom
 -- ---- the three parts
 
 module _ {t : Tables} {rights : List ℕ} {plain : Bool} {roles edges : ℕ} {d : List ℕ} (room : Room t rights plain roles edges d) (p q : List ℕ)
-    (first : Put (from 64 0 (bit t.live)) (mid_of 0 (roles - 0) d) p)
-    (second : Put (edge_bytes (kind_at t) 4096 0) (mid_of roles (roles + edges - roles) (put_mid 0 (roles - 0) d p)) q)
+    (first : Put (from 64 0 (bit t.live)) (take roles d) p)
+    (second : Put (edge_bytes (kind_at t) 4096 0) (mid_of roles (roles + edges - roles) (p ++ drop roles d)) q)
   where
     abbrev rs : List ℕ
     rs = from 64 0 (bit t.live)
@@ -277,7 +307,7 @@ module _ {t : Tables} {rights : List ℕ} {plain : Bool} {roles edges : ℕ} {d 
     es = edge_bytes (kind_at t) 4096 0
 
     abbrev one : List ℕ
-    one = put_mid 0 (roles - 0) d p
+    one = p ++ drop roles d
 
     abbrev two : List ℕ
     two = put_mid roles (roles + edges - roles) one q

@@ -1,24 +1,26 @@
 -- What the parts of the writer do, and what the place of a senior's records is in the tables of a board.
 use Rattle.std.specs.Prelude.{◌≡◌, Bool, cond, ◌≢◌, List, [], ◌∷◌, ◌++◌, map, ℕ, ◌+◌, ◌*◌, ◌/◌, ◌%◌, ◌≤◌, ◌<◌, length, drop}
+use Rattle.std.specs.List.{AllZip}
 use Rattle.sets.specs.Sets.{bit}
-use Rattle.hierarchy.specs.Tables.{Tables, tables, kind_of}
+use Rattle.hierarchy.specs.Tables.{Tables, kind_of}
 use Rattle.hierarchy.specs.First.{First}
 use Rattle.board.specs.Rights.{rights_of}
 use Rattle.board.specs.Asked.{misnamed, Answered}
 use Rattle.frames.specs.Frames.{byte}
 use Rattle.frames.specs.Framing.{trailer_of}
+use Rattle.writer.specs.declared.records.Span.{Span}
 use Rattle.writer.specs.Files.{from, edge_bytes, kind_at, founding?}
 use Rattle.writer.specs.Writing.{Stands, NoRoom, Placed, Unplaced}
 
 -- ---- what the parts of the writer do
 
--- the kinds at the places of two tables: unfolded, those of every board that has the two, whoever lives
-abbrev pub kinds_in : List ℕ → List ℕ → ℕ → ℕ
-kinds_in i a = kind_at (tables 0 i a)
-
 -- the bytes go to the front of what was there
 abbrev pub Put : List ℕ → List ℕ → List ℕ → Type 0
 Put bytes entry exit = exit ≡ bytes ++ drop (length bytes) entry
+
+-- the same with a byte for each x of a list, one that `Gives` says of it
+abbrev pub PutEach : (ℕ → ℕ → Type 0) → List ℕ → List ℕ → List ℕ → Type 0
+PutEach Gives xs entry exit = (bytes : List ℕ) × AllZip Gives xs bytes × Put bytes entry exit
 
 -- the last six bytes of either trailer: two distances, and the two bytes of its mark
 unfoldable pub last_six : ℕ → ℕ → List ℕ → List ℕ
@@ -54,6 +56,10 @@ pub record PutAnswer (file : List ℕ) (entry : List ℕ) (at : ℕ) (exit : Lis
   pub refused : number ≢ 0 → Unplaced entry exit len
 
 -- ---- what the stretch finds in the tables of a board
+
+-- no place, beside a refusal and of a senior without an edge
+abbrev pub nowhere : Span
+nowhere = record { start = 0; len = 0 }
 
 abbrev pub PlaceAnswer : Tables → ℕ → ℕ → ℕ → ℕ → Type 0
 PlaceAnswer t role number start len = Answered (misnamed t.live role role) (Stands role t) (0, 0) number (start, len)

@@ -1,41 +1,22 @@
-use mathlib.Core.Path.{sym, ◌∙◌}
+use mathlib.Core.Path.{◌∙◌}
 use native.Mathlib.Omega.{arith}
-use Rattle.writer.proofs.Counts.{count_start, count_few, count_turn, count_end, row_count}
+use lib.ListN.{take, length, length-append}
+use lib.Seq.{get_or-take, length-take-le}
+use Rattle.std.proofs.lemmas.Slice.Zip.{zip_turn}
+use Rattle.writer.proofs.Counts.{count_start, count_few, count_row}
 use Rattle.writer.proofs.edges_below.Goals as goal
 
-pub loop-x-init : goal.loop-x-init
-loop-x-init c = (omega arith, count_start _)
-
-pub offset_bounds-i-x : goal.offset_bounds-i-x
-offset_bounds-i-x c = omega arith
-
-pub bounds-i-x : goal.bounds-i-x
-bounds-i-x c = omega arith
-
-pub offset_bounds-a-x : goal.offset_bounds-a-x
-offset_bounds-a-x c = omega arith
-
-pub bounds-a-x : goal.bounds-a-x
-bounds-a-x c = omega arith
-
-pub overflow_cast-n : goal.overflow_cast-n
-overflow_cast-n c = omega (arith, c.size.type_inv)
+pub loop-i-init : goal.loop-i-init
+loop-i-init c = count_start _
 
 pub overflow_add-n : goal.overflow_add-n
-overflow_add-n c = let h = count_few c.loop-x.invariant.1 in omega (arith, c.size.type_inv)
+overflow_add-n c = omega (arith, count_few c.loop-i.invariant, c.size.type_inv)
 
-pub overflow_add-x : goal.overflow_add-x
-overflow_add-x c = omega arith
-
-pub loop-x-smaller : goal.loop-x-smaller
-loop-x-smaller c = omega arith
-
-pub loop-x-preserved : goal.loop-x-preserved
-loop-x-preserved c = (
-  omega arith,
-  count_turn c.loop-x.invariant.1 (omega arith) c.size.result
-      (row_count _ _ c.union.result (omega (arith, c.union.type_inv)) c.union.ensures ∙ sym c.size.ensures),
-)
-
-pub returns : goal.returns
-returns c = count_end c.args.senior c.loop-x.invariant.1 (omega arith)
+pub loop-i-preserved : goal.loop-i-preserved
+loop-i-preserved c =
+    let i = c.args.t.now.i in
+    let a = c.args.t.now.a in
+    let l = c.loop-i in
+    let here = zip_turn (take c.args.senior i) a l.yielded c.into_iter-i-iterator.result l.i-iterator c.next.new.self c.next.result (cc) (cc) l.yielded_by _ c.in-Some.is c.next.ensures.steps in
+    rw length-append
+    (count_row l.invariant (omega arith) _ _ _ _ (here.2 0 ∙ get_or-take c.args.senior i (length l.yielded) 0 (omega (arith, length-take-le c.args.senior i))) (here.3 0) c.union.type_inv c.union.ensures c.size.ensures)

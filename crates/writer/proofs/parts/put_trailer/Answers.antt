@@ -1,24 +1,6 @@
-use native.Mathlib.Omega.{arith}
-use lib.ListN.{length-set}
-use Rattle.writer.specs.Parts.{last_six}
-use Rattle.writer.proofs.Puts.{put_six}
+use borrow.Author.Rules.{rules}
+use Rattle.writer.proofs.Writings.{last_six_put}
 use Rattle.writer.proofs.parts.put_trailer.Goals as goal
 
-pub bounds-out-1 : goal.bounds-out-1
-bounds-out-1 c = simp length-set (omega arith)
-
-pub bounds-out-2 : goal.bounds-out-2
-bounds-out-2 c = simp length-set (omega arith)
-
-pub bounds-out-3 : goal.bounds-out-3
-bounds-out-3 c = simp length-set (omega arith)
-
-pub bounds-out-4 : goal.bounds-out-4
-bounds-out-4 c = simp length-set (omega arith)
-
-pub bounds-out-5 : goal.bounds-out-5
-bounds-out-5 c = simp length-set (omega arith)
-
 pub returns : goal.returns
-unfolding last_six
-returns c = put_six c.args.out.now _ _ _ _ _ _ c.requires.2
+returns c = last_six_put c.args.out.now _ _ _ _ _ _ c.requires.0 c.requires.1 (search rules) c.requires.2 (cc) (cc) (cc)
