@@ -2,3 +2,4 @@
 pub mod Unique
 pub mod Viewing
 pub mod Unsound
+pub mod Barring

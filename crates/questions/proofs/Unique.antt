@@ -6,6 +6,7 @@ use mathlib.Core.List.{List}
 use Prim.Native.Nat.{ℕ}
 use native.Mathlib.Nat.{le_antisymm}
 use lib.Count.{ones}
+use Rattle.std.specs.Prelude.{Option, Some, None}
 use Rattle.sets.specs.Sets.{◌is_in◌}
 use Rattle.sets.proofs.Bools.{true_or_false, test_unique}
 use Rattle.sets.proofs.Laws.{ones_mono}
@@ -17,8 +18,6 @@ use Rattle.hierarchy.proofs.ClimbLaws.{climb_unique}
 use Rattle.hierarchy.proofs.Bars.{out_unique, out_by_unique}
 use Rattle.board.specs.Boards.{tables_of}
 use Rattle.board.specs.declared.Board.{Board}
-use Rattle.board.specs.declared.kept.Manager.{Manager}
-use Rattle.board.specs.declared.kept.Manager.TheVariants.{Role, Nobody}
 use Rattle.board.proofs.Unique.{answered_unique}
 use Rattle.questions.specs.Questions.{refusals, Says, Counts, Tells, DerivesAnswer, ScopeAnswer, Manages, ManagerAnswer, StepsAnswer}
 use Rattle.questions.specs.Trusting.{DerivesTrusting, ScopeTrusting, ManagerTrusting, StepsTrusting}
@@ -59,13 +58,13 @@ module _ (b : Board) where
       → (m ≡ n) × ◌≡◌ {A = Bool × ℕ × ℕ × ℕ} (p, j, c, v) (q, k, d, w)
   scope_unique a r = answered_unique (λ _. tells_unique (OutOfScope (tables_of b) a) (λ c d v w. out_unique))
 
-  pub manages_unique : (r : ℕ) → Sound (tables_of b) → (x y : Manager) → Manages b r x → Manages b r y → x ≡ y
-  manages_unique r sound (Role m) (Role n) h g = ap Role (manager_unique (sound_loopless sound) h g)
-  manages_unique r sound (Role m) Nobody h g = absurd (g m h)
-  manages_unique r sound Nobody (Role n) h g = absurd (h n g)
-  manages_unique r sound Nobody Nobody h g = refl
+  pub manages_unique : (r : ℕ) → Sound (tables_of b) → (x y : Option ℕ) → Manages b r x → Manages b r y → x ≡ y
+  manages_unique r sound (Some m) (Some n) h g = ap Some (manager_unique (sound_loopless sound) h g)
+  manages_unique r sound (Some m) None h g = absurd (g m h)
+  manages_unique r sound None (Some n) h g = absurd (h n g)
+  manages_unique r sound None None h g = refl
 
-  pub manager_answer_unique : (r : ℕ) {m n : ℕ} {x y : Manager} → ManagerAnswer b r m x → ManagerAnswer b r n y → (m ≡ n) × (x ≡ y)
+  pub manager_answer_unique : (r : ℕ) {m n : ℕ} {x y : Option ℕ} → ManagerAnswer b r m x → ManagerAnswer b r n y → (m ≡ n) × (x ≡ y)
   manager_answer_unique r = answered_unique (λ f. manages_unique r (sound_at r r f))
 
   pub steps_unique : (r : ℕ) {m n j k : ℕ} → StepsAnswer b r m j → StepsAnswer b r n k → (m ≡ n) × (j ≡ k)
@@ -81,7 +80,7 @@ module _ (live : ℕ) where
       → (m ≡ n) × ◌≡◌ {A = Bool × ℕ × ℕ × ℕ} (p, j, c, v) (q, k, d, w)
   scope_trusting_unique down up a r = answered_unique (λ _. tells_unique (OutOfScopeBy down up a) (λ c d v w. out_by_unique))
 
-  pub manager_trusting_unique : (manager : List ℕ) (r : ℕ) {m n : ℕ} {x y : Manager} → ManagerTrusting live manager r m x → ManagerTrusting live manager r n y → (m ≡ n) × (x ≡ y)
+  pub manager_trusting_unique : (manager : List ℕ) (r : ℕ) {m n : ℕ} {x y : Option ℕ} → ManagerTrusting live manager r m x → ManagerTrusting live manager r n y → (m ≡ n) × (x ≡ y)
   manager_trusting_unique manager r = answered_unique (λ _ x y h g. h ∙ sym g)
 
   pub steps_trusting_unique : (manager : List ℕ) (r : ℕ) {m n j k : ℕ} → StepsTrusting live manager r m j → StepsTrusting live manager r n k → (m ≡ n) × (j ≡ k)

@@ -1,3 +1,4 @@
 -- The four questions, as document 01 has them.
 pub mod Questions
+pub mod Scoped
 pub mod Trusting

@@ -1,17 +1,15 @@
 -- What the four questions about a board answer, as document 01 has them, with the causes of request 3.
-use Rattle.std.specs.Prelude.{◌≡◌, Bool, true, false, ◌↔◌, List, ◌∷◌, ℕ}
+use Rattle.std.specs.Prelude.{Option, Some, None, ◌≡◌, Bool, true, false, ◌↔◌, List, ◌∷◌, ℕ}
 use Rattle.std.specs.Int.Count.{ones}
 use Rattle.sets.specs.Sets.{◌is_in◌}
 use Rattle.hierarchy.specs.Words.{Derives, Scope, OutOfScope, LineManager, Climb}
 use Rattle.board.specs.Boards.{tables_of, SoundBoard}
 use Rattle.board.specs.Asked.{misnamed, Answered}
 use Rattle.board.specs.declared.Board.{Board}
-use Rattle.board.specs.declared.kept.Manager.{Manager}
-use Rattle.board.specs.declared.kept.Manager.TheVariants.{Role, Nobody}
 
 -- an unsound board is refused before the roles named are looked at
 abbrev pub refusals : Board → ℕ → ℕ → List (ℕ × Type 0)
-refusals b x y = (1, (SoundBoard b → ⊥)) ∷ misnamed b.live x y
+refusals b x y = (1, (SoundBoard b → ⊥)) ∷ misnamed b.tables.live x y
 
 -- yes where P holds, no where it doesn't
 abbrev pub Says : Type 0 → Bool → Type 0
@@ -39,12 +37,12 @@ ScopeAnswer b a r number said count cause way =
     Answered (refusals b a r) (Tells (Scope (tables_of b) a) (OutOfScope (tables_of b) a) r) (false, 0, 0, 0) number (said, count, cause, way)
 
 -- the line manager of r as document 01 says it for each case of the answer: a role that is it, or none
-abbrev pub Manages : Board → ℕ → Manager → Type 0
-Manages b r (Role m) = LineManager (tables_of b) m r
-Manages b r Nobody = (m : ℕ) → LineManager (tables_of b) m r → ⊥
+abbrev pub Manages : Board → ℕ → Option ℕ → Type 0
+Manages b r (Some m) = LineManager (tables_of b) m r
+Manages b r None = (m : ℕ) → LineManager (tables_of b) m r → ⊥
 
-abbrev pub ManagerAnswer : Board → ℕ → ℕ → Manager → Type 0
-ManagerAnswer b r = Answered (refusals b r r) (Manages b r) Nobody
+abbrev pub ManagerAnswer : Board → ℕ → ℕ → Option ℕ → Type 0
+ManagerAnswer b r = Answered (refusals b r r) (Manages b r) None
 
 -- the steps from r to role 0
 abbrev pub StepsAnswer : Board → ℕ → ℕ → ℕ → Type 0

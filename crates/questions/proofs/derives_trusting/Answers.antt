@@ -1,10 +1,8 @@
+use mathlib.Core.Path.{refl}
 use mathlib.Core.Logic.Iff
 use Rattle.hierarchy.proofs.Checks.{same_test}
-use Rattle.board.proofs.Asking.{answer_refused, answer_done}
+use Rattle.board.proofs.Asking.{answer_done}
 use Rattle.questions.proofs.derives_trusting.Goals as goal
 
-pub returns-then-number-ne0 : goal.returns-then-number-ne0
-returns-then-number-ne0 c = answer_refused c.refused-number.ensures c.if-number-ne0.true
-
 pub returns : goal.returns
-returns c = answer_done c.refused-number.ensures c.if-number-ne0.false (same_test c.derives-yes.ensures Iff.rfl)
+returns c = answer_done c.in_ok-refused.ensures refl (same_test c.derives.ensures Iff.rfl)

@@ -3,8 +3,8 @@ use Rattle.questions.proofs.Viewing.{manager_viewed}
 use Rattle.questions.proofs.Unsound.{answer_unsound}
 use Rattle.questions.proofs.line_manager.Goals as goal
 
-pub returns-then-not-sound_of : goal.returns-then-not-sound_of
-returns-then-not-sound_of c = answer_unsound _ _ _ (fails c.sound_of.ensures c.if-not-sound_of.true)
+pub returns-then-not-sound : goal.returns-then-not-sound
+returns-then-not-sound c = answer_unsound _ _ _ (fails c.sound.ensures c.if-not-sound.true)
 
 pub returns : goal.returns
-returns c = manager_viewed (holds c.sound_of.ensures c.if-not-sound_of.false) _ c.line_manager_trusting.ensures
+returns c = manager_viewed (holds c.sound.ensures c.if-not-sound.false) _ c.line_manager_trusting.ensures

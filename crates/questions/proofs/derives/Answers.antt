@@ -1,0 +1,10 @@
+use Rattle.board.proofs.Looking.{holds, fails}
+use Rattle.questions.proofs.Viewing.{derives_viewed}
+use Rattle.questions.proofs.Unsound.{answer_unsound}
+use Rattle.questions.proofs.derives.Goals as goal
+
+pub returns-then-not-sound : goal.returns-then-not-sound
+returns-then-not-sound c = answer_unsound _ _ _ (fails c.sound.ensures c.if-not-sound.true)
+
+pub returns : goal.returns
+returns c = derives_viewed (holds c.sound.ensures c.if-not-sound.false) _ _ c.derives_trusting.ensures
