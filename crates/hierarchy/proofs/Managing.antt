@@ -17,7 +17,7 @@ use Rattle.sets.proofs.Laws.{same_eq, same_self, ones_mono}
 use Rattle.sets.proofs.Members.{drawn_part, drawn_less, Taken, taken_part, taken_kept, drawn, drawn_cases}
 use Rattle.hierarchy.specs.Tables.{Tables, row}
 use Rattle.hierarchy.specs.Words.{Reaches, Derives, Administrator, Managed}
-use Rattle.hierarchy.specs.Views.{AreViews, RelatedBy, ScopeBy, InTheWayBy, manager_at, AreManagers}
+use Rattle.hierarchy.specs.Views.{AreViews, RelatedBy, InTheWayBy, manager_at, AreManagers}
 use Rattle.hierarchy.specs.Engine.{Above, AdminsOf, NearestIs, Orderly, Managers}
 use Rattle.hierarchy.proofs.Admin.{reaches_trans, derives_refl, derives_reaches, admin_live, admins_related, no_return}
 use Rattle.hierarchy.proofs.Checks.{and_is, or_is, not_is, same_test}
@@ -31,25 +31,9 @@ no_iff n = (λ e. absurd (false≢true e), λ p. absurd (n p))
 pub past_row : (t : List ℕ) (x y : ℕ) → length t ≡ 64 → 64 ≤ x → y is_in row t x → ⊥
 past_row t x y l g e = false_no (ap (λ (n : ℕ). bit n y) (get_or-eq_default t 0 (subst (λ (n : ℕ). n ≤ x) (sym l) g)) ∙ bit_zero y) e
 
--- the last test of scope: whatever derives r is above or below a
-pub scope_test : {down up : List ℕ} {a r : ℕ} (near : ℕ) (w : Bool) → r is_in row down a → a is_in row up r
-    → ((x : ℕ) → bit near x ≡ (bit (row up a) x || bit (row down a) x))
-    → (w ≡ true) ↔ (row up r are_in near)
-    → (w ≡ true) ↔ ScopeBy down up a r
-scope_test {down} {up} {a} {r} near w d u near-is test = (
-  λ e. record { derives = d; derived = u; rivals = λ x m. or_cases (bit (row up a) x) (bit (row down a) x) (sym (near-is x) ∙ test.0 e x m) },
-  λ s. test.1 (λ x m. near-is x ∙ ⊎_elim (or_left (bit (row up a) x) (bit (row down a) x)) (or_right (bit (row up a) x) (bit (row down a) x)) (s.rivals x m)),
-)
-
 -- and of what bars r: the lowest that is left of whatever derives r
 module _ {down up : List ℕ} {a r : ℕ} (near rest : ℕ) (near-is : (x : ℕ) → bit near x ≡ (bit (row up a) x || bit (row down a) x))
     (rest_is : (x : ℕ) → bit rest x ≡ (bit (row up r) x && not (bit near x))) where
-  pub bar_none : r is_in row down a → a is_in row up r → NoRole rest → ScopeBy down up a r
-  bar_none d u empty = (scope_test near true d u near-is (
-    λ _ x m. ⊎_elim (λ e. e) (λ n. absurd (false_no (empty.none x) (rest_is x ∙ and_both (bit (row up r) x) (not (bit near x)) m (ap not n)))) (true_or_false (bit near x)),
-    λ _. refl,
-  )).0 refl
-
   pub bar_way : {x : ℕ} → LowestRole rest x → InTheWayBy down up a r x
   bar_way {x} l = let w = (left x).0 l.member in record { derives = w.0; unrelated = w.1; lowest = λ y m n. l.least y ((left y).1 (m, n)) }
     where
@@ -71,9 +55,6 @@ module _ (down up : List ℕ) where
     pub part : rest are_in s
     pub only : (a : ℕ) → a is_in found → (a is_in first) × ((x : ℕ) → x is_in s → (x is_in rest) ⊎ RelatedBy down up x a)
     pub every : (a : ℕ) → a is_in first → ((x : ℕ) → x is_in s → RelatedBy down up x a) → a is_in found
-
-  pub narrow_start : (s first : ℕ) → Narrowed s first first s
-  narrow_start s first = record { part = λ x e. e; only = λ a e. (e, λ x m. inl m); every = λ a e _. e }
 
   pub narrow_turn : {s first found rest x rest' : ℕ} (near found' : ℕ) → Taken rest x rest' → Narrowed s first found rest
       → ((a : ℕ) → bit near a ≡ (bit (row up x) a || bit (row down x) a))
@@ -127,9 +108,6 @@ pub record Nearer (t : Tables) (s m left : ℕ) : Type 0 where
 pub record Nearing (down : List ℕ) (s found left : ℕ) : Type 0 where
   pub part : left are_in s
   pub so_far : (t : Tables) (r : ℕ) → AdminsOf t down s r → ((found ≡ 64) × (s are_in left)) ⊎ Nearer t s found left
-
-pub near_start : (down : List ℕ) (s : ℕ) → Nearing down s 64 s
-near_start down s = record { part = λ a e. e; so_far = λ t r h. inl (refl, λ a e. e) }
 
 -- from what is left it goes to m: of the others those stay that m derives
 module _ {down : List ℕ} {s found left m : ℕ} (others left' : ℕ) (l : m < 64) (e : m is_in left) (inv : Nearing down s found left)
@@ -252,9 +230,3 @@ pass_turn {P} turn inv p = record {
   part = λ r e. inv.part r (taken_part turn r e);
   done = λ r m n. ⊎_elim (λ e. ⊎_map (λ k. k) (λ q. subst P (sym q) p) (taken_kept turn r e)) (λ d. inr d) (inv.done r m n);
 }
-
-pub pass_end : {P : ℕ → Type 0} {live rest : ℕ} → NoRole rest → Passing P live rest → (true ≡ true) ↔ ((r : ℕ) → r is_in live → r ≢ 0 → P r)
-pass_end empty inv = (λ _ r m n. ⊎_elim (λ e. absurd (false_no (empty.none r) e)) (λ d. d) (inv.done r m n), λ _. refl)
-
-pub pass_not : {P : ℕ → Type 0} {live rest x : ℕ} → x is_in rest → Passing P live rest → (P x → ⊥) → (false ≡ true) ↔ ((r : ℕ) → r is_in live → r ≢ 0 → P r)
-pass_not {x = x} m inv n = no_iff (λ all. let p = inv.part x m in n (all x p.0 p.1))

@@ -47,13 +47,6 @@ pub record Marking (up : List ℕ) (s x : ℕ) (marked : List ℕ) (rest : ℕ) 
   pub part : rest are_in s
   pub members : (y z : ℕ) → bit (row marked y) z ≡ (bit (row up y) z || ((bit s y && not (bit rest y)) && same? x z))
 
-pub marking_start : (up : List ℕ) (s x : ℕ) → length up ≡ 64 → Marking up s x up s
-marking_start up s x l = record {
-  rows = l;
-  part = λ y e. e;
-  members = λ y z. sym (ap (λ (p : Bool). bit (row up y) z || (p && same? x z)) (and-not_self (bit s y)) ∙ or-false (bit (row up y) z));
-}
-
 pub marking_turn : {up marked : List ℕ} {s x rest y rest' : ℕ} (v : ℕ) → Taken rest y rest' → Marking up s x marked rest
     → ((z : ℕ) → bit v z ≡ (bit (row marked y) z || same? x z)) → Marking up s x (set marked y v) rest'
 marking_turn {up} {marked} {s} {x} {rest} {y} {rest'} v turn inv h = record {
@@ -82,12 +75,6 @@ marking_turn {up} {marked} {s} {x} {rest} {y} {rest'} v turn inv h = record {
         ∙ ap (λ (q : Bool). (bit (row up y) z || (q && same? x z)) || same? x z) (ap₂ (λ (p q : Bool). p && not q) (inv.part y turn.lowest.member) turn.lowest.member)
         ∙ absorb (bit (row up y) z) (same? x z)
         ∙ sym (ap (λ (q : Bool). bit (row up y) z || (q && same? x z)) (ap₂ (λ (p q : Bool). p && not q) (inv.part y turn.lowest.member) gone))
-
-pub marking_end : {up marked : List ℕ} {s x rest : ℕ} → NoRole rest → Marking up s x marked rest → Marked up s x marked
-marking_end {up} {marked} {s} {x} empty inv = record {
-  rows = inv.rows;
-  members = λ y z. inv.members y z ∙ ap (λ (p : Bool). bit (row up y) z || (p && same? x z)) (ap (λ (q : Bool). bit s y && not q) (empty.none y) ∙ and-true (bit s y));
-}
 
 -- ---- a table turned round
 

@@ -1,9 +1,9 @@
 -- A loop that keeps those members of a set that pass a test. Assumes nothing.
 use mathlib.Core.Path.{◌≡◌, sym, ap, ◌∙◌, subst}
 use mathlib.Core.Bool.{◌||◌}
-use mathlib.Core.Logic.{◌⊎◌, inl, inr, ⊎_elim, ◌↔◌}
+use mathlib.Core.Logic.{◌⊎◌, inl, inr, ⊎_elim}
 use Prim.Native.Nat.{ℕ}
-use Rattle.sets.specs.Sets.{bit, ◌is_in◌, ◌are_in◌, same?, NoRole}
+use Rattle.sets.specs.Sets.{bit, ◌is_in◌, ◌are_in◌, same?}
 use Rattle.sets.proofs.Bools.{or_cases, or_left, or_right, false_no}
 use Rattle.sets.proofs.Digits.{bit_zero}
 use Rattle.sets.proofs.Laws.{same_eq, same_self}
@@ -19,8 +19,8 @@ sift_start {P} {s} q = subst (Sifted P s 0) (sym q) (record { part = λ x e. e; 
 
 module _ {P : ℕ → Type 0} {s found rest x rest' : ℕ} (turn : Taken rest x rest') (inv : Sifted P s found rest) where
   -- x passes, and is kept
-  pub sift_in : (found' : ℕ) {found'' : ℕ} → P x → ((y : ℕ) → bit found' y ≡ (bit found y || same? x y)) → found'' ≡ found' → Sifted P s found'' rest'
-  sift_in found' p h q = subst (λ (f : ℕ). Sifted P s f rest') (sym q) (record {
+  pub sift_in : (found' : ℕ) → P x → ((y : ℕ) → bit found' y ≡ (bit found y || same? x y)) → Sifted P s found' rest'
+  sift_in found' p h = record {
     part = λ y e. inv.part y (taken_part turn y e);
     only = λ y e. ⊎_elim (λ f. inv.only y f)
         (λ q. subst (λ (n : ℕ). (n is_in s) × P n) (sym (same_eq x y q)) (inv.part x turn.lowest.member, p))
@@ -29,15 +29,12 @@ module _ {P : ℕ → Type 0} {s found rest x rest' : ℕ} (turn : Taken rest x 
         (λ r. ⊎_elim (λ k. inl k) (λ k. inr (h y ∙ or_right (bit found y) (same? x y) (ap (same? x) k ∙ same_self x turn.lowest.role))) (taken_kept turn y r))
         (λ f. inr (h y ∙ or_left (bit found y) (same? x y) f))
         (inv.every y e q);
-  })
+  }
 
   -- x does not pass
-  pub sift_out : {found'' : ℕ} → (P x → ⊥) → found'' ≡ found → Sifted P s found'' rest'
-  sift_out n q = subst (λ (f : ℕ). Sifted P s f rest') (sym q) (record {
+  pub sift_out : (P x → ⊥) → Sifted P s found rest'
+  sift_out n = record {
     part = λ y e. inv.part y (taken_part turn y e);
     only = inv.only;
     every = λ y e q. ⊎_elim (λ r. ⊎_elim (λ k. inl k) (λ k. absurd (n (subst P k q))) (taken_kept turn y r)) (λ f. inr f) (inv.every y e q);
-  })
-
-pub sift_end : {P : ℕ → Type 0} {s found rest : ℕ} → NoRole rest → Sifted P s found rest → (x : ℕ) → (x is_in found) ↔ ((x is_in s) × P x)
-sift_end empty inv x = (inv.only x, λ q. ⊎_elim (λ r. absurd (false_no (empty.none x) r)) (λ f. f) (inv.every x q.0 q.1))
+  }

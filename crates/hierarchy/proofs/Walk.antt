@@ -43,9 +43,6 @@ gather_turn {table} {s} {sum} {rest} {y} sum' turn inv sum_is_lem = record {
       (inv.every x z e d);
 }
 
-pub gather_end : {table : List ℕ} {s rest : ℕ} (sum : ℕ) → NoRole rest → Gathered table s sum rest → (z : ℕ) → (z is_in sum) ↔ InRows table s z
-gather_end sum empty inv z = (inv.only z, λ r. ⊎_elim (λ q. absurd (false_no (empty.none r.of) q)) (λ f. f) (inv.every r.of z r.member r.on))
-
 -- ---- one role is settled in one table
 
 pub settled_is : {table reach : List ℕ} {x own : ℕ} (below r : ℕ) → x < 64 → length reach ≡ 64 → ((z : ℕ) → (z is_in below) ↔ InRows reach (row table x) z)

@@ -10,9 +10,6 @@ loop-root-init c = at_first refl refl (search rules)
 pub returns : goal.returns
 returns c = order_end c.loop-root.invariant c.minus.result c.minus.ensures (nobody c.in_default.is c.lowest.ensures)
 
-pub descend-done-requires : goal.descend-done-requires
-descend-done-requires c = order_walk c.loop-root.invariant c.minus.result c.minus.ensures c.in-Some.root (picked c.in-Some.is c.lowest.ensures).member
-
 pub returns-then-not-has : goal.returns-then-not-has
 returns-then-not-has c = order_stuck c.descend-done.ensures (sym c.has.ensures ∙ c.if-not-has.true)
 
