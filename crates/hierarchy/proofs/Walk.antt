@@ -338,13 +338,6 @@ module _ {t : Tables} {kept : Kept} (right : Right t kept t.live) where
 
 module _ {t : Tables} {kept : Kept} {done : ℕ} (inv : SoFar t kept done) where
   module _ (left : ℕ) (left_is : (x : ℕ) → bit left x ≡ (bit t.live x && not (bit done x))) where
-    pub order_walk : (root : ℕ) → root is_in left → Starts t kept done root
-    order_walk root e = record {
-      so_far = inv;
-      alive = and_left (bit t.live root) (not (bit done root)) (sym (left_is root) ∙ e);
-      fresh = not_so (bit done root) (λ d. false_no (ap not d) (and_right (bit t.live root) (not (bit done root)) (sym (left_is root) ∙ e)));
-    }
-
     pub order_end : NoRole left → FilledDown t true kept.derives
     order_end empty = filled_down (subst (Right t kept) all inv.right)
       where

@@ -1,7 +1,7 @@
 use borrow.Author.Rules.{rules}
 use mathlib.Core.Path.{refl, sym, ◌∙◌}
-use Rattle.sets.proofs.Members.{picked, nobody}
-use Rattle.hierarchy.proofs.Walk.{at_first, order_walk, order_end, order_stuck, order_less}
+use Rattle.sets.proofs.Members.{nobody}
+use Rattle.hierarchy.proofs.Walk.{at_first, order_end, order_stuck, order_less}
 use Rattle.hierarchy.proofs.views.fill_down.Goals as goal
 
 pub loop-root-init : goal.loop-root-init
@@ -14,4 +14,4 @@ pub returns-then-not-has : goal.returns-then-not-has
 returns-then-not-has c = order_stuck c.descend-done.ensures (sym c.has.ensures ∙ c.if-not-has.true)
 
 pub loop-root-smaller : goal.loop-root-smaller
-loop-root-smaller c = order_less c.descend-done.ensures (order_walk c.loop-root.invariant c.minus.result c.minus.ensures c.in-Some.root (picked c.in-Some.is c.lowest.ensures).member).fresh (sym c.has.ensures ∙ c.if-not-has.false)
+loop-root-smaller c = order_less c.descend-done.ensures (search rules) (sym c.has.ensures ∙ c.if-not-has.false)
