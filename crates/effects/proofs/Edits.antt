@@ -63,18 +63,11 @@ pub record Entering (t : List ℕ) (seniors junior : ℕ) (part : Bool) (n : Lis
   pub few : rest are_in seniors
   pub entries : (x y : ℕ) → bit (row n x) y ≡ cond ((bit seniors x && not (bit rest x)) && same? junior y) part (bit (row t x) y)
 
-none_yet : (s m p o : Bool) → o ≡ cond ((s && not s) && m) p o
-none_yet true m p o = refl
-none_yet false m p o = refl
-
 -- a row is the one of this turn, e, or stays
 one_more : (e s r m p o : Bool) → (e ≡ true → s ≡ true) → (e ≡ true → r ≡ true)
     → cond e (cond m p (cond ((s && not r) && m) p o)) (cond ((s && not r) && m) p o) ≡ cond ((s && not (r && not e)) && m) p o
 one_more true s r m p o f g = rw (f refl, g refl)
 one_more false s r m p o f g = rw and-true
-
-pub entering_start : (t : List ℕ) (seniors junior : ℕ) (part : Bool) → IsTable t → Entering t seniors junior part t seniors
-entering_start t seniors junior part h = record { whole = h; few = λ x e. e; entries = λ x y. none_yet (bit seniors x) (same? junior y) part (bit (row t x) y) }
 
 pub entering_turn : {t n : List ℕ} {seniors junior rest x rest' : ℕ} {part : Bool} (w : ℕ)
     → w < 2 ^ 64 → Entering t seniors junior part n rest → Taken rest x rest' → ((y : ℕ) → bit w y ≡ cond (same? junior y) part (bit (row n x) y))
@@ -92,18 +85,12 @@ entering_turn {t} {n} {seniors} {junior} {rest} {x} {rest'} {part} w fits inv ta
       (λ e. rw (same_eq x z e) taken.lowest.member));
 }
 
-pub entering_end : {t n : List ℕ} {seniors junior rest : ℕ} {part : Bool} → NoRole rest → Entering t seniors junior part n rest → Entered t seniors junior part n
-entering_end none inv = record { whole = inv.whole; entries = λ x y. inv.entries x y ∙ rw (none.none x, and-true) }
-
 -- ---- every row without a junior: the rows below x are done
 
 pub record Leaving (t : List ℕ) (junior : ℕ) (n : List ℕ) (x : ℕ) : Type 0 where
   pub whole : IsTable n
   pub done : (z y : ℕ) → z < x → bit (row n z) y ≡ (bit (row t z) y && not (same? junior y))
   pub left : (z : ℕ) → x ≤ z → row n z ≡ row t z
-
-pub leaving_start : {t : List ℕ} (junior : ℕ) → IsTable t → Leaving t junior t 0
-leaving_start junior whole = record { whole = whole; done = λ z y l. absurd (not-suc-le-zero l); left = λ z g. refl }
 
 pub leaving_turn : {t n : List ℕ} {junior x : ℕ} (w : ℕ) → w < 2 ^ 64 → x < 64 → Leaving t junior n x
     → ((y : ℕ) → bit w y ≡ (bit (row n x) y && not (same? junior y))) → Leaving t junior (set n x w) (x + 1)
@@ -116,9 +103,6 @@ leaving_turn {t} {n} {junior} {x} w fits l inv is =
           (λ d. inv.done z y (omega arith));
       left = λ z m. by_Row n x w z k (λ r. r ≡ row t z) (λ e. absurd (omega arith)) (λ d. inv.left z (omega arith));
     }
-
-pub leaving_end : {t n : List ℕ} {junior x : ℕ} → 64 ≤ x → Leaving t junior n x → Left t junior n
-leaving_end g inv = record { whole = inv.whole; entries = λ z y l. inv.done z y (omega arith) }
 
 -- ---- a table known by its entries
 

@@ -4,17 +4,14 @@ ghost use Rattle.hierarchy.specs.Tables.{row, IsTable};
 ghost use Rattle.sets.specs.Sets.{bit, same?};
 ghost use Rattle.effects.specs.Rows.{RowSet, Entered, Left};
 
-use sets::{Pick, but_lowest, lowest, with, without};
+use sets::{roles_of, with, without};
 
 // Row x of a table; a number above 63 has no junior.
 pub(crate) fn row_of(t: &[u64; 64], x: usize) -> u64
     requires { length t.now ≡ 64 }
     ensures { result ≡ row t.now x }
 {
-    if x < 64 {
-        return t[x];
-    }
-    0
+    t.get(x).copied().unwrap_or(0)
 }
 
 // s becomes the row of x.
@@ -31,10 +28,7 @@ pub(crate) fn set_row(t: &mut [u64; 64], x: usize, s: u64)
 fn put(s: u64, r: usize, part: bool) -> u64
     ensures { (x : ℕ) → bit result x ≡ cond (same? r x) part (bit s x) }
 {
-    if part {
-        return with(s, r);
-    }
-    without(s, r)
+    if part { with(s, r) } else { without(s, r) }
 }
 
 // The junior goes into the row of each senior, or out of it, as `part` says.
@@ -42,13 +36,8 @@ pub(crate) fn enter(t: &mut [u64; 64], seniors: u64, junior: usize, part: bool)
     requires { IsTable t.old }
     ensures { Entered t.old seniors junior part t.new }
 {
-    let mut rest = seniors;
-    loop {
-        let Pick::Role(x) = lowest(rest) else {
-            return;
-        };
+    for x in roles_of(seniors) {
         t[x] = put(t[x], junior, part);
-        rest = but_lowest(rest);
     }
 }
 
@@ -57,9 +46,7 @@ pub(crate) fn leave(t: &mut [u64; 64], junior: usize)
     requires { IsTable t.old }
     ensures { Left t.old junior t.new }
 {
-    let mut x = 0;
-    while x < 64 {
-        t[x] = without(t[x], junior);
-        x += 1;
+    for row in t.iter_mut() {
+        *row = without(*row, junior);
     }
 }

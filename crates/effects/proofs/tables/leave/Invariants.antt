@@ -1,9 +1,5 @@
-use Prim.Native.Nat.{◌-◌}
 use Rattle.effects.proofs.Edits.{Leaving}
 use Rattle.effects.proofs.tables.leave.Given as goal
 
-abbrev pub invariant-loop-x : goal.invariant-loop-x
-invariant-loop-x l = Leaving l.initial.t l.junior l.t l.x
-
-abbrev pub decreases-loop-x : goal.decreases-loop-x
-decreases-loop-x l = 64 - l.x
+abbrev pub invariant-loop-row : goal.invariant-loop-row
+invariant-loop-row l = Leaving l.initial.t l.junior l.t l.row-index
