@@ -1,7 +1,7 @@
 -- Tables row by row and entry by entry: what the code of the effects cites. Assumes nothing.
 use mathlib.Core.Path.{◌≡◌, refl, sym, ap, ap₂, ◌∙◌, subst}
 use mathlib.Core.Bool.{Bool, true, false, cond, not, ◌&&◌, ◌||◌, and-true, and-false, or-true, or-false, or_assoc, and_comm}
-use mathlib.Core.Logic.{◌≢◌, ⊎_elim}
+use mathlib.Core.Logic.{◌≢◌, ◌⊎◌, inr, ⊎_elim}
 use mathlib.Core.List.{List}
 use Prim.Native.Nat.{ℕ, zero, suc, ◌+◌, ◌^◌, ◌≤◌, ◌<◌}
 use native.Mathlib.Nat.{not-suc-le-zero, le_of_suc-le-suc}
@@ -9,15 +9,18 @@ use native.Mathlib.Omega.{arith}
 use lib.Dec.{eqb, lit<}
 use lib.ListN.{set, length, length-set, get_or-eq_default}
 use lib.Seq.{get_or-set_same, get_or-set_other, ext_get_or}
-use borrow.Author.Tests.{eqb-true, eqb-false, ne_eqb}
-use Rattle.sets.specs.Sets.{bit, ◌is_in◌, ◌are_in◌, same?, set_of, NoRole}
+use borrow.Author.Tests.{eqb-true, ne_eqb}
+use Rattle.sets.specs.Sets.{bit, ◌is_in◌, ◌are_in◌, same?, set_of}
 use Rattle.sets.proofs.Bools.{true_or_false, and_left, and_right, false_no, lt_or_ge}
 use Rattle.sets.proofs.Digits.{bit_zero}
 use Rattle.sets.proofs.Laws.{same_is, same_out, same_eq, same_self, set_of_fits, bit_set_of, is_set_of, bit_lt}
 use Rattle.sets.proofs.Members.{Taken, taken_part}
 use Rattle.hierarchy.specs.Tables.{Tables, tables, row, IsTable, Shaped, has_i, has_a}
 use Rattle.hierarchy.proofs.Rows.{row_set as by_Row}
+use Rattle.board.specs.Codes.{code_number}
 use Rattle.board.specs.declared.Command.{Command}
+use Rattle.board.specs.declared.Code.{Code}
+use Rattle.board.specs.declared.Code.TheVariants.{AddRole, RemoveRole, AddEdge, RemoveEdge, ChangeEdge, GiveRights, TakeRights}
 use Rattle.effects.specs.Effects.{lives, list_of, pair, entry, table_after, after}
 use Rattle.effects.specs.Rows.{RowSet, Entered, Left}
 
@@ -30,6 +33,25 @@ cond_false u v e = ap (λ (q : Bool). cond q u v) e
 cond_when : {A : Type 0} (p : Bool) (u v w : A) → (p ≡ true → u ≡ v) → cond p u w ≡ cond p v w
 cond_when true u v w h = h refl
 cond_when false u v w h = refl
+
+-- ---- a number names one command
+
+code_at : ℕ → Code
+code_at n =
+    cond (eqb n 1) AddRole (cond (eqb n 2) RemoveRole (cond (eqb n 3) AddEdge (cond (eqb n 4) RemoveEdge (cond (eqb n 5) ChangeEdge (cond (eqb n 6) GiveRights TakeRights)))))
+
+code_back : (k : Code) → code_at (code_number k) ≡ k
+unfolding code_at
+code_back AddRole = refl
+code_back RemoveRole = refl
+code_back AddEdge = refl
+code_back RemoveEdge = refl
+code_back ChangeEdge = refl
+code_back GiveRights = refl
+code_back TakeRights = refl
+
+pub one_code : {j k : Code} → code_number j ≡ code_number k → j ≡ k
+one_code {j} {k} e = sym (code_back j) ∙ ap code_at e ∙ code_back k
 
 -- ---- one row, one set
 
@@ -176,13 +198,11 @@ module _ (c : Command) (s j : ℕ) (p o : Bool) (x y : ℕ) where
   unfolding entry
   entry_5 e = rw e
 
-  entry_else : c.code ≢ 1 → c.code ≢ 2 → c.code ≢ 3 → c.code ≢ 4 → c.code ≢ 5 → entry c s j p o x y ≡ o
+  -- codes past the fifth or below the first leave every entry,
+  pub entry_none : (c.code < 1) ⊎ (5 < c.code) → entry c s j p o x y ≡ o
   unfolding entry
-  entry_else e1 e2 e3 e4 e5 = rw (ne_eqb c.code 1 e1, ne_eqb c.code 2 e2, ne_eqb c.code 3 e3, ne_eqb c.code 4 e4, ne_eqb c.code 5 e5)
-
-  -- commands past the fifth leave every entry,
-  pub entry_past : 5 < c.code → entry c s j p o x y ≡ o
-  entry_past h = entry_else (λ e. omega (arith, h, e)) (λ e. omega (arith, h, e)) (λ e. omega (arith, h, e)) (λ e. omega (arith, h, e)) (λ e. omega (arith, h, e))
+  entry_none h =
+      rw (ne_eqb c.code 1 (λ e. omega (arith, h, e)), ne_eqb c.code 2 (λ e. omega (arith, h, e)), ne_eqb c.code 3 (λ e. omega (arith, h, e)), ne_eqb c.code 4 (λ e. omega (arith, h, e)), ne_eqb c.code 5 (λ e. omega (arith, h, e)))
 
   -- and an edge command every other pair
   pub entry_other : c.code ≢ 1 → c.code ≢ 2 → pair c x y ≡ false → entry c s j p o x y ≡ o
@@ -259,17 +279,18 @@ module _ (c : Command) (s j : ℕ) (p : Bool) (t : List ℕ) where
       here x y true d = named c x y t d ∙ h
       here x y false d = refl
 
-  pub keeps : c.code ≢ 1 → c.code ≢ 2 → (c.code ≡ 3 → p ≡ false) → (c.code ≡ 4 → p ≡ false) → c.code ≢ 5 → IsTable t → t ≡ table_after c s j p t
-  keeps e1 e2 e3 e4 e5 whole = table_is c s j p t t whole
-      (λ x y l m.
-      let o = bit (row t x) y in
-      ⊎_elim
-      (λ e. let n = eqb-true c.code 3 e in sym (entry_3 c s j p o x y n ∙ rw (e3 n, and-false (pair c x y), or-false o)))
-      (λ d. ⊎_elim
-      (λ e. let n = eqb-true c.code 4 e in sym (entry_4 c s j p o x y n ∙ rw (e4 n, and-false (pair c x y), and-true o)))
-      (λ e. sym (entry_else c s j p o x y e1 e2 (eqb-false c.code 3 d) (eqb-false c.code 4 e) e5))
-      (true_or_false (eqb c.code 4)))
-      (true_or_false (eqb c.code 3)))
+  -- an edge command that names no part of the table leaves it,
+  pub not_linked : c.code ≡ 3 → p ≡ false → IsTable t → t ≡ table_after c s j p t
+  not_linked e h whole = table_is c s j p t t whole
+      (λ x y l m. let o = bit (row t x) y in sym (entry_3 c s j p o x y e ∙ rw (h, and-false (pair c x y), or-false o)))
+
+  pub not_unlinked : c.code ≡ 4 → p ≡ false → IsTable t → t ≡ table_after c s j p t
+  not_unlinked e h whole = table_is c s j p t t whole
+      (λ x y l m. let o = bit (row t x) y in sym (entry_4 c s j p o x y e ∙ rw (h, and-false (pair c x y), and-true o)))
+
+  -- and so does a code past the fifth or below the first
+  pub keeps : (c.code < 1) ⊎ (5 < c.code) → IsTable t → t ≡ table_after c s j p t
+  keeps k whole = table_is c s j p t t whole (λ x y l m. sym (entry_none c s j p (bit (row t x) y) x y k))
 
 -- ---- the live roles, and all three
 
@@ -307,4 +328,4 @@ tables_stay t c shaped h =
     refl (stays _ _ _ t.a record { rows = shaped.a_rows; fits = shaped.a_fits }))
   where
     stays : (s j : ℕ) (p : Bool) (r : List ℕ) → IsTable r → r ≡ table_after c s j p r
-    stays s j p r whole = table_is c s j p r r whole (λ x y l m. sym (entry_past c s j p (bit (row r x) y) x y h))
+    stays s j p r whole = table_is c s j p r r whole (λ x y l m. sym (entry_none c s j p (bit (row r x) y) x y (inr h)))

@@ -1,5 +1,5 @@
 // One table of a board, lent: its rows, and the entries of one junior.
-ghost use Rattle.std.specs.Prelude.{◌≡◌, cond, ℕ, length};
+ghost use Rattle.std.specs.Prelude.{◌≡◌, cond, ℕ};
 ghost use Rattle.hierarchy.specs.Tables.{row, IsTable};
 ghost use Rattle.sets.specs.Sets.{bit, same?};
 ghost use Rattle.effects.specs.Rows.{RowSet, Entered, Left};
@@ -8,7 +8,6 @@ use sets::{roles_of, with, without};
 
 // Row x of a table; a number above 63 has no junior.
 pub(crate) fn row_of(t: &[u64; 64], x: usize) -> u64
-    requires { length t.now ≡ 64 }
     ensures { result ≡ row t.now x }
 {
     t.get(x).copied().unwrap_or(0)
@@ -33,7 +32,6 @@ fn put(s: u64, r: usize, part: bool) -> u64
 
 // The junior goes into the row of each senior, or out of it, as `part` says.
 pub(crate) fn enter(t: &mut [u64; 64], seniors: u64, junior: usize, part: bool)
-    requires { IsTable t.old }
     ensures { Entered t.old seniors junior part t.new }
 {
     for x in roles_of(seniors) {
@@ -43,7 +41,6 @@ pub(crate) fn enter(t: &mut [u64; 64], seniors: u64, junior: usize, part: bool)
 
 // The junior goes out of every row.
 pub(crate) fn leave(t: &mut [u64; 64], junior: usize)
-    requires { IsTable t.old }
     ensures { Left t.old junior t.new }
 {
     for row in t.iter_mut() {
