@@ -8,4 +8,5 @@ pub mod Looking
 pub mod Fitting
 pub mod Asking
 pub mod Answering
+pub mod Codes
 pub mod Reading

@@ -3,21 +3,30 @@ use mathlib.Core.Path.{◌≡◌, refl, sym, ap, ◌∙◌, subst, subst₂}
 use mathlib.Core.Bool.{Bool, true, false, not, ◌&&◌, false≢true}
 use mathlib.Core.Logic.Iff
 use mathlib.Core.Logic.{◌⊎◌, inl, inr, ⊎_elim, ◌≢◌, ◌↔◌, dite}
-use mathlib.Core.List.{List, [], ◌∷◌}
+use mathlib.Core.List.{List, [], ◌∷◌, ◌++◌}
 use Prim.Native.Nat.{ℕ, ◌≤◌, ◌<◌}
+use Rattle.std.specs.Prelude.{Option, Some, None, MatchOption}
+use Rattle.std.specs.Option.{option_or, IsSome}
 use native.Mathlib.Decide.{ℕ_discrete}
 use native.Mathlib.Omega.{arith}
 use lib.Dec.{eqb, leb}
 use borrow.Author.Tests.{eqb-true, eq-eqb, ne_eqb, not-true}
-use Rattle.sets.specs.Sets.{bit, ◌is_in◌, same?, LowestRole}
+use Rattle.sets.specs.Sets.{bit, ◌is_in◌, ◌are_in◌, same?}
 use Rattle.sets.proofs.Bools.{true_or_false, and_left, and_right, and_both, false_no, not_so, lt_or_ge}
 use Rattle.sets.proofs.Digits.{bit_zero}
 use Rattle.sets.proofs.Laws.{same_is, same_eq}
-use Rattle.hierarchy.proofs.Checks.{and_is, or_is, eq_is, le_is}
-use Rattle.board.specs.Answers.{plain}
+use Rattle.hierarchy.proofs.Checks.{and_is, or_is, eq_is, le_is, same_test}
+use Rattle.board.specs.Answers.{Answer, plain}
 use Rattle.board.specs.declared.Command.{Command}
-use Rattle.board.specs.declared.answers.Answer.{Answer}
-use Rattle.refusals.specs.Refusals.{names_edge, scoped, strictly, InScope, conditions, AsAsked, Breaks, Offends, Because, Blames, Names}
+use Rattle.hierarchy.specs.Views.{ScopeBy, OutOfScopeBy, BarBy}
+use Rattle.hierarchy.specs.Views.{OutOfScopeBy.not_derived, OutOfScopeBy.in_the_way}
+use Rattle.hierarchy.specs.First.{First}
+use Rattle.hierarchy.proofs.FirstLaws.{hit}
+use Rattle.scopes.specs.Bars.{bar_cause, bar_way}
+use Rattle.scopes.specs.declared.Bar.{Bar}
+use Rattle.refusals.specs.Trusting.{BlamesBy}
+use Rattle.refusals.specs.declared.offending.Offender.{Offender}
+use Rattle.refusals.specs.Refusals.{LowestOut, names_edge, scoped, strictly, InScope, conditions, AsAsked, Breaks, Offends, Because, Blames, Names, by_scope}
 use Rattle.refusals.specs.Refusals.{Offends.here, Offends.later, Because.out, Because.itself}
 
 abbrev pub Conditions : Type 0
@@ -201,57 +210,143 @@ module _ (all a : ℕ) where
     λ k. h y ∙ and_both (bit all y) (not (same? a y)) k.0 (ap not (not_so (same? a y) (λ e. k.1 refl (sym (same_eq a y e))))),
   )
 
--- a condition of command 1: it is of `s`, `w` are as is asked, and `d` are those of s that are not in w
-module _ (In : ℕ → ℕ → Type 0) (c : Command) (s w d : ℕ) (strict : Bool) (asked : (y : ℕ) → (y is_in w) ↔ AsAsked In c.actor strict y) (d-is : (y : ℕ) → bit d y ≡ (bit s y && not (bit w y))) where
-  abbrev SetAt : ℕ → Bool
-  SetAt x = eqb c.code 1 && bit s x
+-- what was looked through so far: nobody offends, or this role does first
+abbrev pub Looked : (ℕ → ℕ → Type 0) → ℕ → Conditions → Option Offender → Type 0
+Looked In a ps None = Clear In a ps
+Looked In a ps (Some o) = (o.role < 64) × Offends In a ps o.role o.strict
 
-  set_clear : d ≡ 0 → (y : ℕ) → SetAt y ≡ true → AsAsked In c.actor strict y
-  set_clear z y e = (asked y).0 (⊎_elim (λ m. m)
-      (λ n. absurd (false_no (bit_zero y) (subst (λ (k : ℕ). y is_in k) z (d-is y ∙ and_both (bit s y) (not (bit w y)) ((at_set c y s).0 e).1 (ap not n)))))
-      (true_or_false (bit w y)))
+module _ (In : ℕ → ℕ → Type 0) (a : ℕ) where
+  offends_before : {ps : Conditions} (qs : Conditions) {x : ℕ} {s : Bool} → Offends In a ps x s → Offends In a (ps ++ qs) x s
+  offends_before qs (here h l) = here h l
+  offends_before qs (later n h) = later n (offends_before qs h)
 
-  set_found : c.code ≡ 1 → {ps : Conditions} {x : ℕ} {t : Bool} → LowestRole d x → t ≡ strict → Offends In c.actor ((SetAt, strict) ∷ ps) x t
-  set_found one {ps} {x} l e =
-      let m = sym (d-is x) ∙ l.member in
-      subst (Offends In c.actor ((SetAt, strict) ∷ ps) x) (sym e)
-      (here
-      (record { among = (at_set c x s).1 (one, and_left (bit s x) (not (bit w x)) m); wrong = λ k. false_no (not-true _ (and_right (bit s x) (not (bit w x)) m)) ((asked x).1 k) })
-      (λ y o. l.least y (d-is y ∙ and_both (bit s y) (not (bit w y)) ((at_set c y s).0 o.among).1 (ap not (not_so (bit w y) (λ m. o.wrong ((asked y).0 m)))))))
+  offends_after : (ps : Conditions) {qs : Conditions} {x : ℕ} {s : Bool} → Clear In a ps → Offends In a qs x s → Offends In a (ps ++ qs) x s
+  offends_after [] k h = h
+  offends_after (p ∷ ps) k h = past k.0 (offends_after ps k.1 h)
 
-module _ (In : ℕ → ℕ → Type 0) (c : Command) where
-  abbrev Role : Bool → Type 0
-  Role s = (y : ℕ) → (leb 2 c.code && eqb y c.role) ≡ true → AsAsked In c.actor s y
+  clear_both : (ps qs : Conditions) → Clear In a ps → Clear In a qs → Clear In a (ps ++ qs)
+  clear_both [] qs k l = l
+  clear_both (p ∷ ps) qs k l = (k.0, clear_both ps qs k.1 l)
 
-  abbrev Junior : Type 0
-  Junior = (y : ℕ) → (names_edge c && eqb y c.junior) ≡ true → AsAsked In c.actor false y
+  -- one look after the other
+  pub looked_or : (ps qs : Conditions) (p q : Option Offender) → Looked In a ps p → Looked In a qs q → Looked In a (ps ++ qs) (option_or p q)
+  looked_or ps qs (Some o) q h k = (h.0, offends_before qs h.1)
+  looked_or ps qs None (Some o) h k = (k.0, offends_after ps h k.1)
+  looked_or ps qs None None h k = clear_both ps qs h k
 
-  -- the first two conditions of command 1 are of nobody,
-  no_role : c.code ≡ 1 → Role (eqb c.code 2)
-  no_role one y e = let k = ((at_role c y).0 e).0 in absurd (omega arith)
+  -- and none left
+  pub looked_then : (ps qs : Conditions) (r : Option Offender) → Looked In a ps r → Clear In a qs → Looked In a (ps ++ qs) r
+  looked_then ps qs None h k = clear_both ps qs h k
+  looked_then ps qs (Some o) h k = (h.0, offends_before qs h.1)
 
-  no_junior : (OnEdge c → ⊥) → Junior
-  no_junior none y e = absurd (none ((at_junior c y).0 e).0)
+  -- a condition of the members of `s`, where those of `w` are as is asked
+  pub looked_set : (those : ℕ → Bool) (strict : Bool) (s w : ℕ) (r : Option Offender) → ((y : ℕ) → (those y ≡ true) ↔ (y is_in s)) → ((y : ℕ) → (y is_in w) ↔ AsAsked In a strict y)
+      → MatchOption r (s are_in w) (λ o. LowestOut s w o.role × (o.strict ≡ strict)) → Looked In a ((those, strict) ∷ []) r
+  looked_set those strict s w None is asked h = (λ y e. (asked y).0 (h y ((is y).0 e)), tt)
+  looked_set those strict s w (Some o) is asked h = (
+    h.0.role,
+    subst (Offends In a ((those, strict) ∷ []) o.role) (sym h.1)
+        (here (record { among = (is o.role).1 h.0.among; wrong = λ k. h.0.out ((asked o.role).1 k) }) (λ y b. h.0.least y ((is y).0 b.among) (λ m. b.wrong ((asked y).0 m)))),
+  )
 
-  -- and of the others those of the sets
-  ends_clear : c.code ≢ 1 → Role (eqb c.code 2) → Junior → Clear In c.actor (conditions c)
-  ends_clear n r j = (r, (j, (none c.a_seniors, (none c.i_seniors, (none c.a_juniors, (none c.i_juniors, tt))))))
-    where
-      none : (s : ℕ) {strict : Bool} (y : ℕ) → (eqb c.code 1 && bit s y) ≡ true → AsAsked In c.actor strict y
-      none s y e = absurd (n ((at_set c y s).0 e).0)
+-- the members of a role alone
+one_member : (r s : ℕ) → r < 64 → ((y : ℕ) → bit s y ≡ same? r y) → (y : ℕ) → (y is_in s) ↔ (y ≡ r)
+one_member r s l is y = same_test (is y ∙ same_is r y l) (eq_is y r)
 
-  -- the first two are of one role
-  role_clear : {s : Bool} → AsAsked In c.actor s c.role → Role s
-  role_clear {s} k y e = subst (AsAsked In c.actor s) (sym ((at_role c y).0 e).1) k
+-- all conditions looked through
+module _ (all : ℕ) (c : Command) where
+  abbrev Through : Option Offender → Type 0
+  Through = Looked (InSet all) c.actor (conditions c)
 
-  junior_clear : AsAsked In c.actor false c.junior → Junior
-  junior_clear k y e = subst (AsAsked In c.actor false) (sym ((at_junior c y).0 e).1) k
+  pub looked_all : (r : Option Offender) → Through r → MatchOption r (InScope (InSet all) c) (λ o. (o.role < 64) × Offends (InSet all) c.actor (conditions c) o.role o.strict)
+  looked_all None k = clear_scope c k
+  looked_all (Some o) k = k
 
-  role_found : 2 ≤ c.code → {s : Bool} {ps : Conditions} → (AsAsked In c.actor s c.role → ⊥) → Offends In c.actor ((λ x. leb 2 c.code && eqb x c.role, s) ∷ ps) c.role s
-  role_found l h = here (record { among = (at_role c c.role).1 (l, refl); wrong = h }) (λ y o. let k = ((at_role c y).0 o.among).1 in omega arith)
+  -- a look at one set, as it is asked of it
+  abbrev OutOf : ℕ → ℕ → Bool → Option Offender → Type 0
+  OutOf s w strict r = MatchOption r (s are_in w) (λ o. LowestOut s w o.role × (o.strict ≡ strict))
 
-  junior_found : OnEdge c → {ps : Conditions} → (AsAsked In c.actor false c.junior → ⊥) → Offends In c.actor ((λ x. names_edge c && eqb x c.junior, false) ∷ ps) c.junior false
-  junior_found l h = here (record { among = (at_junior c c.junior).1 (l, refl); wrong = h }) (λ y o. let k = ((at_junior c y).0 o.among).1 in omega arith)
+  -- the conditions of sets are of nobody but for command 1, and that of a junior but for an edge
+  none_of : c.code ≢ 1 → (s : ℕ) {strict : Bool} (y : ℕ) → (eqb c.code 1 && bit s y) ≡ true → AsAsked (InSet all) c.actor strict y
+  none_of n s y e = absurd (n ((at_set c y s).0 e).0)
+
+  no_junior : (OnEdge c → ⊥) → (y : ℕ) → (names_edge c && eqb y c.junior) ≡ true → AsAsked (InSet all) c.actor false y
+  no_junior n y e = absurd (n ((at_junior c y).0 e).0)
+
+  no_sets : c.code ≢ 1 → Clear (InSet all) c.actor (sets c)
+  no_sets n = (none_of n c.a_seniors, (none_of n c.i_seniors, (none_of n c.a_juniors, (none_of n c.i_juniors, tt))))
+
+  -- the condition of the role, and that of the junior
+  abbrev of_role : (ℕ → Bool) × Bool
+  of_role = (λ x. leb 2 c.code && eqb x c.role, eqb c.code 2)
+
+  abbrev of_junior : (ℕ → Bool) × Bool
+  of_junior = (λ x. names_edge c && eqb x c.junior, false)
+
+  look_role : 2 ≤ c.code → c.role < 64 → (s w : ℕ) (strict : Bool) → strict ≡ eqb c.code 2 → (r : Option Offender) → ((y : ℕ) → bit s y ≡ same? c.role y)
+      → ((y : ℕ) → (y is_in w) ↔ AsAsked (InSet all) c.actor strict y) → OutOf s w strict r → Looked (InSet all) c.actor (of_role ∷ []) r
+  look_role low l s w strict e r is asked h =
+      subst (λ (k : Bool). Looked (InSet all) c.actor ((λ x. leb 2 c.code && eqb x c.role, k) ∷ []) r) e
+      (looked_set (InSet all) c.actor _ strict s w r (λ y. Iff.trans (at_role c y) (Iff.trans (λ k. k.1, λ q. (low, q)) (Iff.symm (one_member c.role s l is y)))) asked h)
+
+  look_junior : OnEdge c → c.junior < 64 → (s : ℕ) (r : Option Offender) → ((y : ℕ) → bit s y ≡ same? c.junior y) → OutOf s all false r → Looked (InSet all) c.actor (of_junior ∷ []) r
+  look_junior edge l s r is h =
+      looked_set (InSet all) c.actor _ false s all r (λ y. Iff.trans (at_junior c y) (Iff.trans (λ k. k.1, λ q. (edge, q)) (Iff.symm (one_member c.junior s l is y)))) (plain_asked all c.actor) h
+
+  module _ (l : c.actor < 64) (own : ℕ) (own_is : (y : ℕ) → bit own y ≡ (bit all y && not (same? c.actor y))) where
+    -- command 1 looks through its sets,
+    pub looked_1 : c.code ≡ 1 → (p q r s : Option Offender) → OutOf c.a_seniors all false p → OutOf c.i_seniors all false q → OutOf c.a_juniors own true r → OutOf c.i_juniors own true s
+        → Through (option_or (option_or (option_or p q) r) s)
+    looked_1 one p q r s hp hq hr hs =
+        looked_or (InSet all) c.actor (of_role ∷ of_junior ∷ []) (sets c) None (option_or (option_or (option_or p q) r) s)
+        (λ y e. absurd (omega (arith, one, ((at_role c y).0 e).0)), (no_junior (λ k. omega (arith, one, k.0)), tt))
+        (looked_or (InSet all) c.actor (up_a ∷ up_i ∷ down_a ∷ []) (down_i ∷ []) (option_or (option_or p q) r) s
+        (looked_or (InSet all) c.actor (up_a ∷ up_i ∷ []) (down_a ∷ []) (option_or p q) r
+        (looked_or (InSet all) c.actor (up_a ∷ []) (up_i ∷ []) p q
+        (look c.a_seniors all false (plain_asked all c.actor) p hp) (look c.i_seniors all false (plain_asked all c.actor) q hq))
+        (look c.a_juniors own true strict r hr)) (look c.i_juniors own true strict s hs))
+      where
+        strict : (y : ℕ) → (y is_in own) ↔ AsAsked (InSet all) c.actor true y
+        strict = strict_asked all c.actor own l own_is
+
+        up_a : (ℕ → Bool) × Bool
+        up_a = (λ x. eqb c.code 1 && bit c.a_seniors x, false)
+
+        up_i : (ℕ → Bool) × Bool
+        up_i = (λ x. eqb c.code 1 && bit c.i_seniors x, false)
+
+        down_a : (ℕ → Bool) × Bool
+        down_a = (λ x. eqb c.code 1 && bit c.a_juniors x, true)
+
+        down_i : (ℕ → Bool) × Bool
+        down_i = (λ x. eqb c.code 1 && bit c.i_juniors x, true)
+
+        look : (s w : ℕ) (k : Bool) → ((y : ℕ) → (y is_in w) ↔ AsAsked (InSet all) c.actor k y) → (r : Option Offender) → OutOf s w k r → Looked (InSet all) c.actor ((λ x. eqb c.code 1 && bit s x, k) ∷ []) r
+        look s w k asked r h = looked_set (InSet all) c.actor _ k s w r (λ y. Iff.trans (at_set c y s) (λ m. m.1, λ m. (one, m))) asked h
+
+    -- command 2 at its role, strictly,
+    pub looked_2 : c.code ≡ 2 → c.role < 64 → (s : ℕ) (r : Option Offender) → ((y : ℕ) → bit s y ≡ same? c.role y) → OutOf s own true r → Through r
+    looked_2 two m s r is h =
+        looked_then (InSet all) c.actor (of_role ∷ []) (of_junior ∷ sets c) r
+        (look_role (omega (arith, two)) m s own true (sym (eq-eqb c.code 2 two)) r is (strict_asked all c.actor own l own_is) h)
+        (no_junior (λ k. omega (arith, two, k.0)), no_sets (λ e. omega (arith, two, e)))
+
+  -- commands 3 to 5 at both ends of the edge,
+  pub looked_3 : OnEdge c → c.role < 64 → c.junior < 64 → (s t : ℕ) (p q : Option Offender) → ((y : ℕ) → bit s y ≡ same? c.role y) → ((y : ℕ) → bit t y ≡ same? c.junior y)
+      → OutOf s all false p → OutOf t all false q → Through (option_or p q)
+  looked_3 edge m n s t p q s_is t_is hp hq =
+      looked_then (InSet all) c.actor (of_role ∷ of_junior ∷ []) (sets c) (option_or p q)
+      (looked_or (InSet all) c.actor (of_role ∷ []) (of_junior ∷ []) p q
+      (look_role (omega (arith, edge.0)) m s all false (sym (ne_eqb c.code 2 (λ e. omega (arith, edge.0, e)))) p s_is (plain_asked all c.actor) hp)
+      (look_junior edge n t q t_is hq))
+      (no_sets (λ e. omega (arith, edge.0, e)))
+
+  -- and commands 6 and 7 at their role
+  pub looked_6 : 6 ≤ c.code → c.role < 64 → (s : ℕ) (r : Option Offender) → ((y : ℕ) → bit s y ≡ same? c.role y) → OutOf s all false r → Through r
+  looked_6 six m s r is h =
+      looked_then (InSet all) c.actor (of_role ∷ []) (of_junior ∷ sets c) r
+      (look_role (omega (arith, six)) m s all false (sym (ne_eqb c.code 2 (λ e. omega (arith, six, e)))) r is (plain_asked all c.actor) h)
+      (no_junior (λ k. omega (arith, six, k.1)), no_sets (λ e. omega (arith, six, e)))
 
 -- ---- a 6 put together
 
@@ -260,91 +355,27 @@ pub offender_out : (In : ℕ → ℕ → Type 0) (a : ℕ) {ps : Conditions} {x 
 offender_out In a (here h l) n m = h.wrong (m, n)
 offender_out In a (later k h) n m = offender_out In a h n m
 
-module _ {In : ℕ → ℕ → Type 0} {Out : ℕ → ℕ → ℕ → ℕ → Type 0} (c : Command) {x : ℕ} {s : Bool} (h : Offends In c.actor (conditions c) x s) where
-  pub blames_itself : s ≡ true → c.actor ≡ x → Blames In Out c (record { number = 6; who = x; cause = 3; way = 0 })
-  blames_itself t e = record { strict = true; offends = subst (Offends In c.actor (conditions c) x) t h; because = itself e }
+out_cause : {down up : List ℕ} {a x k w : ℕ} → OutOfScopeBy down up a x k w → k ≢ 0
+out_cause (not_derived n) e = absurd (omega (arith, e))
+out_cause (in_the_way d e w) q = absurd (omega (arith, q))
 
-  pub blames_out : {k w : ℕ} → (s ≡ true → c.actor ≢ x) → (In c.actor x × ((k ≡ 0) × (w ≡ 0))) ⊎ Out c.actor x k w → Blames In Out c (record { number = 6; who = x; cause = k; way = w })
-  blames_out n o = record { strict = s; offends = h; because = out n (⊎_elim (λ q. absurd (offender_out In c.actor h n q.0)) (λ q. q) o) }
+module _ (down up : List ℕ) (all : ℕ) (c : Command) (scope : (x : ℕ) → (x is_in all) ↔ ScopeBy down up c.actor x) {x : ℕ} {s : Bool} (h : Offends (InSet all) c.actor (conditions c) x s) where
+  offender : Offends (ScopeBy down up) c.actor (conditions c) x s
+  offender = offends_alike (InSet all) (ScopeBy down up) c.actor scope h
 
--- ---- command 1, set by set: `all` is the actor's scope, and `w` its strict scope
+  abbrev SaysSix : ℕ → ℕ → Type 0
+  SaysSix k w = First (by_scope (ScopeBy down up) c) 6 × Names (BlamesBy down up c) (record { number = 6; who = x; cause = k; way = w })
 
-module _ (all : ℕ) (c : Command) (one : c.code ≡ 1) where
-  -- d are those of s that are not in w
-  abbrev Rest : ℕ → ℕ → ℕ → Type 0
-  Rest d s w = (y : ℕ) → bit d y ≡ (bit s y && not (bit w y))
+  six : {k w : ℕ} → Because (OutOfScopeBy down up) c.actor x s k w → SaysSix k w
+  six b = (hit _ _ _ (offends_out c offender), names_six refl (record { strict = s; offends = offender; because = b }))
 
-  abbrev Named : ℕ → Bool → Type 0
-  Named = Offends (InSet all) c.actor (conditions c)
+  pub six_itself : s ≡ true → x ≡ c.actor → SaysSix 3 0
+  six_itself t e = six (subst (λ (k : Bool). Because (OutOfScopeBy down up) c.actor x k 3 0) (sym t) (itself (sym e)))
 
-  members : {x : ℕ} {t : Bool} → Offends (InSet all) c.actor (sets c) x t → Named x t
-  members h = past (no_role (InSet all) c one) (past (no_junior (InSet all) c (λ k. omega (arith, one, k.0))) h)
+  module _ (n : s ≡ true → c.actor ≢ x) where
+    pub six_barred : {k w : ℕ} → BarBy down up c.actor x k w → SaysSix k w
+    six_barred b = six (out n (⊎_elim (λ q. absurd (offender_out (ScopeBy down up) c.actor offender n q.0)) (λ q. q) b))
 
-  module _ (d : ℕ) (d-is : Rest d c.a_seniors all) where
-    pub named_1 : {x : ℕ} {t : Bool} → LowestRole d x × (t ≡ false) → Named x t
-    named_1 l = members (set_found (InSet all) c c.a_seniors all d false (plain_asked all c.actor) d-is one l.0 l.1)
-
-    module _ (d-no : d ≡ 0) (e : ℕ) (e-is : Rest e c.i_seniors all) where
-      past_a : {x : ℕ} {t : Bool} {ps : Conditions} → Offends (InSet all) c.actor ps x t → Offends (InSet all) c.actor ((λ x. eqb c.code 1 && bit c.a_seniors x, false) ∷ ps) x t
-      past_a = past (set_clear (InSet all) c c.a_seniors all d false (plain_asked all c.actor) d-is d-no)
-
-      pub named_2 : {x : ℕ} {t : Bool} → LowestRole e x × (t ≡ false) → Named x t
-      named_2 l = members (past_a (set_found (InSet all) c c.i_seniors all e false (plain_asked all c.actor) e-is one l.0 l.1))
-
-      module _ (e-no : e ≡ 0) (l : c.actor < 64) (w f : ℕ) (w-is : (y : ℕ) → bit w y ≡ (bit all y && not (same? c.actor y))) (f-is : Rest f c.a_juniors w) where
-        past_i : {x : ℕ} {t : Bool} {ps : Conditions} → Offends (InSet all) c.actor ps x t → Offends (InSet all) c.actor ((λ x. eqb c.code 1 && bit c.i_seniors x, false) ∷ ps) x t
-        past_i = past (set_clear (InSet all) c c.i_seniors all e false (plain_asked all c.actor) e-is e-no)
-
-        pub named_3 : {x : ℕ} {t : Bool} → LowestRole f x × (t ≡ true) → Named x t
-        named_3 m = members (past_a (past_i (set_found (InSet all) c c.a_juniors w f true (strict_asked all c.actor w l w-is) f-is one m.0 m.1)))
-
-        module _ (f-no : f ≡ 0) (g : ℕ) (g-is : Rest g c.i_juniors w) where
-          under : (y : ℕ) → (eqb c.code 1 && bit c.a_juniors y) ≡ true → AsAsked (InSet all) c.actor true y
-          under = set_clear (InSet all) c c.a_juniors w f true (strict_asked all c.actor w l w-is) f-is f-no
-
-          pub named_4 : {x : ℕ} {t : Bool} → LowestRole g x × (t ≡ true) → Named x t
-          named_4 m = members (past_a (past_i (past under (set_found (InSet all) c c.i_juniors w g true (strict_asked all c.actor w l w-is) g-is one m.0 m.1))))
-
-          pub not_all : (InScope (InSet all) c → ⊥) → g ≢ 0
-          not_all n g-no = n (clear_scope c (
-            no_role (InSet all) c one,
-            (
-              no_junior (InSet all) c (λ k. omega (arith, one, k.0)),
-              (
-                set_clear (InSet all) c c.a_seniors all d false (plain_asked all c.actor) d-is d-no,
-                (
-                  set_clear (InSet all) c c.i_seniors all e false (plain_asked all c.actor) e-is e-no,
-                  (under, (set_clear (InSet all) c c.i_juniors w g true (strict_asked all c.actor w l w-is) g-is g-no, tt)),
-                ),
-              ),
-            ),
-          ))
-
--- ---- the others: the role, then the junior
-
-module _ (all : ℕ) (c : Command) (low : 2 ≤ c.code) (fails : InScope (InSet all) c → ⊥) where
-  -- where it is about the role alone, or the role is out, that is the one
-  pub named_only : c.code ≡ 2 → Offends (InSet all) c.actor (conditions c) c.role true
-  named_only two = subst (Offends (InSet all) c.actor (conditions c) c.role) (eq-eqb c.code 2 two)
-      (role_found (InSet all) c low (λ k. fails (clear_scope c (ends_clear (InSet all) c (λ one. omega (arith, one, two)) (role_clear (InSet all) c k) (no_junior (InSet all) c (λ k. omega (arith, two, k.0)))))))
-
-  module _ (edge : c.code ≢ 2) where
-    not_strict : false ≡ eqb c.code 2
-    not_strict = sym (ne_eqb c.code 2 edge)
-
-    pub named_senior : bit all c.role ≡ false → Offends (InSet all) c.actor (conditions c) c.role false
-    named_senior n = subst (Offends (InSet all) c.actor (conditions c) c.role) (sym not_strict) (role_found (InSet all) c low (λ k. false_no n k.0))
-
-    -- else it is about an edge, and the junior is
-    module _ (m : c.role is_in all) where
-      clear_role : Role (InSet all) c (eqb c.code 2)
-      clear_role = role_clear (InSet all) c (m, λ two. absurd (edge (eqb-true c.code 2 two)))
-
-      no_clear : Junior (InSet all) c → ⊥
-      no_clear k = fails (clear_scope c (ends_clear (InSet all) c (λ one. omega (arith, one)) clear_role k))
-
-      pub named_edge : OnEdge c
-      named_edge = (omega (arith, edge), ⊎_elim (λ high. absurd (no_clear (no_junior (InSet all) c (λ k. omega (arith, high, k.1))))) (λ five. five) (lt_or_ge 5 c.code))
-
-      pub named_junior : Offends (InSet all) c.actor (conditions c) c.junior false
-      named_junior = past clear_role (junior_found (InSet all) c named_edge (λ k. no_clear (junior_clear (InSet all) c k)))
+    pub barred : (r : Option Bar) → BarBy down up c.actor x (bar_cause r) (bar_way r) → IsSome r
+    barred (Some bar) b = refl
+    barred None b = absurd (⊎_elim (λ q. offender_out (ScopeBy down up) c.actor offender n q.0) (λ q. out_cause q refl) b)

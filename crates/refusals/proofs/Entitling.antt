@@ -65,8 +65,8 @@ pub record Gathered (rights : List ℕ) (roles all rest : ℕ) : Type 0 where
   pub from : (k : ℕ) → k is_in all → HeldAmong rights roles k
   pub to : (x k : ℕ) → x is_in roles → k is_in rights_of rights x → (x is_in rest) ⊎ (k is_in all)
 
-pub gathered_start : (rights : List ℕ) (roles : ℕ) → Gathered rights roles 0 roles
-gathered_start rights roles = record { few = λ x m. m; from = λ k m. absurd (false_no (bit_zero k) m); to = λ x k m h. inl m }
+pub gathered_start : {rights : List ℕ} {roles left : ℕ} → left ≡ roles → Gathered rights roles 0 left
+gathered_start {rights} {roles} q = subst (Gathered rights roles 0) (sym q) (record { few = λ x m. m; from = λ k m. absurd (false_no (bit_zero k) m); to = λ x k m h. inl m })
 
 pub gathered_turn : {rights : List ℕ} {roles all rest x rest' all' : ℕ} → Taken rest x rest' → ((k : ℕ) → bit all' k ≡ (bit all k || bit (rights_of rights x) k))
     → Gathered rights roles all rest → Gathered rights roles all' rest'
@@ -77,6 +77,3 @@ gathered_turn {rights} {roles} {all} {rest} {x} turn more inv = record {
       (λ r. ⊎_elim inl (λ e. inr (more k ∙ or_right (bit all k) _ (subst (λ (z : ℕ). k is_in rights_of rights z) e h))) (taken_kept turn y r))
       (λ a. inr (more k ∙ or_left (bit all k) _ a)) (inv.to y k m h);
 }
-
-pub gathered_end : {rights : List ℕ} {roles all rest : ℕ} → NoRole rest → Gathered rights roles all rest → (k : ℕ) → (k is_in all) ↔ HeldAmong rights roles k
-gathered_end empty inv k = (inv.from k, λ h. ⊎_elim (λ r. absurd (false_no (empty.none h.0) r)) (λ a. a) (inv.to h.0 k h.1 h.2))

@@ -13,8 +13,8 @@ use Rattle.hierarchy.specs.Tables.{Tables, Shaped}
 use Rattle.hierarchy.specs.Words.{Scope, OutOfScope}
 use Rattle.hierarchy.proofs.Bars.{out_some}
 use Rattle.hierarchy.proofs.Decide.{scope_dec}
+use Rattle.board.specs.Answers.{Answer}
 use Rattle.board.specs.declared.Command.{Command}
-use Rattle.board.specs.declared.answers.Answer.{Answer}
 use Rattle.board.proofs.Rules.{stable}
 use Rattle.refusals.specs.Refusals.{Malformed, Fits, InScope, conditions, AsAsked, Breaks, Offends, Blames}
 use Rattle.refusals.specs.Refusals.{Offends.here, Offends.later, Because.out, Because.itself}

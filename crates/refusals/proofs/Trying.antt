@@ -19,9 +19,11 @@ use Rattle.hierarchy.specs.First.{First}
 use Rattle.hierarchy.proofs.Checks.{and_is, or_is, if_is, not_is, eq_is, same_test}
 use Rattle.hierarchy.proofs.Derive.{edge_entry}
 use Rattle.hierarchy.proofs.FirstLaws.{hit, pass, none}
-use Rattle.board.specs.Answers.{plain}
+use Rattle.board.specs.Answers.{Answer, plain}
+use Rattle.board.specs.Codes.{code_number}
 use Rattle.board.specs.declared.Command.{Command}
-use Rattle.board.specs.declared.answers.Answer.{Answer}
+use Rattle.board.specs.declared.Code.{Code}
+use Rattle.board.specs.declared.Code.TheVariants.{AddEdge, RemoveEdge, ChangeEdge}
 use Rattle.board.proofs.Rules.{stable, first_done, first_other, first_refused, first_next}
 use Rattle.refusals.specs.Refusals.{Malformed, as_senior, as_junior, needed, Missing, edge_kind, PartsStand, Standing, Lacking, scoped, strictly, InScope, Names, unscoped, by_rights, by_scope, before}
 use Rattle.refusals.specs.Refusals.{Malformed.no_code, Malformed.no_actor, Malformed.no_role, Malformed.no_junior, Malformed.no_kind, Malformed.no_rights, Standing.role, Standing.edge, Lacking.no_part, Lacking.no_edge}
@@ -41,6 +43,12 @@ ranged c l h a r j k g (no_junior n w) = omega (arith, j ((edge_is c).0 n))
 ranged c l h a r j k g (no_kind n (inl w)) = let q = k ((edge_is c).0 n) in omega arith
 ranged c l h a r j k g (no_kind n (inr w)) = let q = k ((edge_is c).0 n) in omega arith
 ranged c l h a r j k g (no_rights n w) = omega (arith, g (leb-true 6 c.code n))
+
+-- the codes of an edge
+pub on_edge : (c : Command) (k : Code) → c.code ≡ code_number k → (k ≡ AddEdge) ⊎ ((k ≡ RemoveEdge) ⊎ (k ≡ ChangeEdge)) → OnEdge c
+on_edge c k e (inl h) = let q : c.code ≡ 3 = e ∙ ap code_number h in (omega arith, omega arith)
+on_edge c k e (inr (inl h)) = let q : c.code ≡ 4 = e ∙ ap code_number h in (omega arith, omega arith)
+on_edge c k e (inr (inr h)) = let q : c.code ≡ 5 = e ∙ ap code_number h in (omega arith, omega arith)
 
 -- and the other way round
 module _ (c : Command) (formed : Malformed c → ⊥) where

@@ -7,8 +7,8 @@ use Rattle.hierarchy.specs.Views.{ScopeBy}
 use Rattle.hierarchy.specs.First.{First}
 use Rattle.hierarchy.proofs.Bars.{out_by_unique}
 use Rattle.hierarchy.proofs.FirstLaws.{first_unique}
+use Rattle.board.specs.Answers.{Answer}
 use Rattle.board.specs.declared.Command.{Command}
-use Rattle.board.specs.declared.answers.Answer.{Answer}
 use Rattle.refusals.specs.Refusals.{Names, before}
 use Rattle.refusals.specs.Trusting.{DerivesBy, BlamesBy}
 use Rattle.refusals.proofs.Blaming.{blames_one, names_one}

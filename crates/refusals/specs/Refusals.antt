@@ -3,9 +3,8 @@
 use Rattle.std.specs.Prelude.{◌≡◌, Bool, true, false, ◌&&◌, ◌||◌, ◌⊎◌, ◌≢◌, List, [], ◌∷◌, ◌++◌, ℕ, ◌^◌, ◌≤◌, ◌<◌, eqb, leb}
 use Rattle.sets.specs.Sets.{bit, ◌is_in◌}
 use Rattle.hierarchy.specs.Tables.{Tables, row, kind, has_i, has_a}
-use Rattle.board.specs.Answers.{plain}
+use Rattle.board.specs.Answers.{Answer, plain}
 use Rattle.board.specs.declared.Command.{Command}
-use Rattle.board.specs.declared.answers.Answer.{Answer}
 use Rattle.refusals.specs.Entitled.{names_rights, Entitled}
 
 -- ---- the fields that a command uses
@@ -112,6 +111,13 @@ AsAsked In a strict x = In a x × (strict ≡ true → a ≢ x)
 pub record Breaks (In : ℕ → ℕ → Type 0) (a : ℕ) (those : ℕ → Bool) (strict : Bool) (x : ℕ) : Type 0 where
   pub among : those x ≡ true
   pub wrong : AsAsked In a strict x → ⊥
+
+-- r is the lowest of those that is not within
+pub record LowestOut (those within r : ℕ) : Type 0 where
+  pub role : r < 64
+  pub among : r is_in those
+  pub out : r is_in within → ⊥
+  pub least : (y : ℕ) → y is_in those → (y is_in within → ⊥) → r ≤ y
 
 -- `Offends In a conditions x strict`: x is the first to offend, the lowest who breaks the first condition that is broken, and `strict` is
 -- what that one asks

@@ -5,8 +5,8 @@ use Rattle.hierarchy.specs.Tables.{row}
 use Rattle.hierarchy.specs.Views.{ScopeBy, OutOfScopeBy}
 use Rattle.board.specs.Boards.{tables_of}
 use Rattle.board.specs.declared.Board.{Board}
+use Rattle.board.specs.Answers.{Answer}
 use Rattle.board.specs.declared.Command.{Command}
-use Rattle.board.specs.declared.answers.Answer.{Answer}
 use Rattle.refusals.specs.Refusals.{before, Blames}
 
 -- a derives x, by the row of a
@@ -19,4 +19,4 @@ BlamesBy down up = Blames (ScopeBy down up) (OutOfScopeBy down up)
 
 -- the rows on the board handed in
 abbrev pub before_trusting : Board → Command → List (ℕ × Type 0)
-before_trusting b c = before (DerivesBy b.derives) (ScopeBy b.derives b.derivers) (tables_of b) b.rights c
+before_trusting b c = before (DerivesBy b.kept.derives) (ScopeBy b.kept.derives b.kept.derivers) (tables_of b) b.rights c

@@ -1,12 +1,6 @@
 use mathlib.Core.Path.{◌∙◌}
-use Rattle.refusals.proofs.Trying.{role_lt}
+use Rattle.refusals.proofs.Trying.{edge_row}
 use Rattle.refusals.proofs.linked.Goals as goal
 
-pub bounds-i-senior : goal.bounds-i-senior
-bounds-i-senior c = role_lt _ c.requires
-
-pub bounds-a-senior : goal.bounds-a-senior
-bounds-a-senior c = role_lt _ c.requires
-
 pub returns : goal.returns
-returns c = c.has.ensures ∙ c.union.ensures c.args.c.junior
+returns c = let f = c.args.f.now in edge_row c.args.t.now f.command (c.has.ensures ∙ c.union.ensures f.command.junior)
