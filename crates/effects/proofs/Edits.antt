@@ -17,10 +17,7 @@ use Rattle.sets.proofs.Laws.{same_is, same_out, same_eq, same_self, set_of_fits,
 use Rattle.sets.proofs.Members.{Taken, taken_part}
 use Rattle.hierarchy.specs.Tables.{Tables, tables, row, IsTable, Shaped, has_i, has_a}
 use Rattle.hierarchy.proofs.Rows.{row_set as by_Row}
-use Rattle.board.specs.Codes.{code_number}
 use Rattle.board.specs.declared.Command.{Command}
-use Rattle.board.specs.declared.Code.{Code}
-use Rattle.board.specs.declared.Code.TheVariants.{AddRole, RemoveRole, AddEdge, RemoveEdge, ChangeEdge, GiveRights, TakeRights}
 use Rattle.effects.specs.Effects.{lives, list_of, pair, entry, table_after, after}
 use Rattle.effects.specs.Rows.{RowSet, Entered, Left}
 
@@ -33,25 +30,6 @@ cond_false u v e = ap (λ (q : Bool). cond q u v) e
 cond_when : {A : Type 0} (p : Bool) (u v w : A) → (p ≡ true → u ≡ v) → cond p u w ≡ cond p v w
 cond_when true u v w h = h refl
 cond_when false u v w h = refl
-
--- ---- a number names one command
-
-code_at : ℕ → Code
-code_at n =
-    cond (eqb n 1) AddRole (cond (eqb n 2) RemoveRole (cond (eqb n 3) AddEdge (cond (eqb n 4) RemoveEdge (cond (eqb n 5) ChangeEdge (cond (eqb n 6) GiveRights TakeRights)))))
-
-code_back : (k : Code) → code_at (code_number k) ≡ k
-unfolding code_at
-code_back AddRole = refl
-code_back RemoveRole = refl
-code_back AddEdge = refl
-code_back RemoveEdge = refl
-code_back ChangeEdge = refl
-code_back GiveRights = refl
-code_back TakeRights = refl
-
-pub one_code : {j k : Code} → code_number j ≡ code_number k → j ≡ k
-one_code {j} {k} e = sym (code_back j) ∙ ap code_at e ∙ code_back k
 
 -- ---- one row, one set
 

@@ -1,7 +1,8 @@
 use native.Mathlib.Omega.{arith}
 use mathlib.Core.Path.{refl, sym, ap, ◌∙◌}
 use Rattle.board.specs.Codes.{code_number}
-use Rattle.effects.proofs.Edits.{one_code, born, gone, living}
+use Rattle.board.proofs.Codes.{one_code}
+use Rattle.effects.proofs.Edits.{born, gone, living}
 use Rattle.effects.proofs.living.Goals as goal
 
 pub returns-in_default : goal.returns-in_default
