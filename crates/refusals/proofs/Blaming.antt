@@ -12,11 +12,10 @@ use native.Mathlib.Omega.{arith}
 use lib.Dec.{eqb, leb}
 use borrow.Author.Tests.{eqb-true, eq-eqb, ne_eqb, not-true}
 use Rattle.sets.specs.Sets.{bit, ◌is_in◌, ◌are_in◌, same?}
-use Rattle.sets.proofs.Bools.{true_or_false, and_left, and_right, and_both, false_no, not_so, lt_or_ge}
-use Rattle.sets.proofs.Digits.{bit_zero}
+use Rattle.sets.proofs.Bools.{and_left, and_right, and_both, false_no, not_so}
 use Rattle.sets.proofs.Laws.{same_is, same_eq}
 use Rattle.hierarchy.proofs.Checks.{and_is, or_is, eq_is, le_is, same_test}
-use Rattle.board.specs.Answers.{Answer, plain}
+use Rattle.board.specs.Answers.{Answer, plain, cause_number, cause_way, barred as cause_of}
 use Rattle.board.specs.declared.Command.{Command}
 use Rattle.hierarchy.specs.Views.{ScopeBy, OutOfScopeBy, BarBy}
 use Rattle.hierarchy.specs.Views.{OutOfScopeBy.not_derived, OutOfScopeBy.in_the_way}
@@ -24,6 +23,7 @@ use Rattle.hierarchy.specs.First.{First}
 use Rattle.hierarchy.proofs.FirstLaws.{hit}
 use Rattle.scopes.specs.Bars.{bar_cause, bar_way}
 use Rattle.scopes.specs.declared.Bar.{Bar}
+use Rattle.scopes.specs.declared.Bar.TheVariants.{NotDerived, InTheWay}
 use Rattle.refusals.specs.Trusting.{BlamesBy}
 use Rattle.refusals.specs.declared.offending.Offender.{Offender}
 use Rattle.refusals.specs.Refusals.{LowestOut, names_edge, scoped, strictly, InScope, conditions, AsAsked, Breaks, Offends, Because, Blames, Names, by_scope}
@@ -373,9 +373,14 @@ module _ (down up : List ℕ) (all : ℕ) (c : Command) (scope : (x : ℕ) → (
   six_itself t e = six (subst (λ (k : Bool). Because (OutOfScopeBy down up) c.actor x k 3 0) (sym t) (itself (sym e)))
 
   module _ (n : s ≡ true → c.actor ≢ x) where
-    pub six_barred : {k w : ℕ} → BarBy down up c.actor x k w → SaysSix k w
-    six_barred b = six (out n (⊎_elim (λ q. absurd (offender_out (ScopeBy down up) c.actor offender n q.0)) (λ q. q) b))
+    out_of_scope : {k w : ℕ} → BarBy down up c.actor x k w → OutOfScopeBy down up c.actor x k w
+    out_of_scope b = ⊎_elim (λ q. absurd (offender_out (ScopeBy down up) c.actor offender n q.0)) (λ q. q) b
+
+    -- the cause is that of the bar
+    pub six_barred : (bar : Bar) → BarBy down up c.actor x (bar_cause (Some bar)) (bar_way (Some bar)) → SaysSix (cause_number (cause_of bar)) (cause_way (cause_of bar))
+    six_barred NotDerived b = six (out n (out_of_scope b))
+    six_barred (InTheWay y) b = six (out n (out_of_scope b))
 
     pub barred : (r : Option Bar) → BarBy down up c.actor x (bar_cause r) (bar_way r) → IsSome r
     barred (Some bar) b = refl
-    barred None b = absurd (⊎_elim (λ q. offender_out (ScopeBy down up) c.actor offender n q.0) (λ q. out_cause q refl) b)
+    barred None b = absurd (out_cause (out_of_scope b) refl)

@@ -7,7 +7,7 @@ use Prim.Native.Nat.{ℕ, suc, ◌-◌, ◌≤◌, ◌<◌}
 use native.Mathlib.Omega.{arith}
 use lib.Dec.{eqb}
 use borrow.Author.Tests.{eqb-true, eqb-false, eq-eqb, ne_eqb, le-leb, lt-leb}
-use Rattle.sets.specs.Sets.{bit, ◌is_in◌, ◌are_in◌, same?, NoRole}
+use Rattle.sets.specs.Sets.{bit, ◌is_in◌, ◌are_in◌, same?}
 use Rattle.sets.proofs.Bools.{true_or_false, or_cases, or_left, or_right, false_no}
 use Rattle.sets.proofs.Digits.{bit_zero}
 use Rattle.sets.proofs.Laws.{same_is}

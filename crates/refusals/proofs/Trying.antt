@@ -3,7 +3,7 @@ use mathlib.Core.Path.{◌≡◌, refl, sym, ap, ◌∙◌, subst}
 use mathlib.Core.Bool.{Bool, true, false, not, ◌&&◌, ◌||◌, or-false, or_comm}
 use mathlib.Core.Logic.Iff
 use mathlib.Core.Logic.{◌⊎◌, inl, inr, ⊎_elim, ◌≢◌, ◌↔◌}
-use mathlib.Core.List.{List, ◌++◌}
+use mathlib.Core.List.{◌++◌}
 use Prim.Native.Nat.{ℕ, ◌^◌, ◌≤◌, ◌<◌}
 use native.Mathlib.Decide.{ℕ_discrete}
 use native.Mathlib.Omega.{arith}
@@ -21,14 +21,18 @@ use Rattle.hierarchy.proofs.Derive.{edge_entry}
 use Rattle.hierarchy.proofs.FirstLaws.{hit, pass, none}
 use Rattle.board.specs.Answers.{Answer, plain}
 use Rattle.board.specs.Codes.{code_number}
+use Rattle.board.specs.Boards.{tables_of}
+use Rattle.board.specs.declared.Board.{Board}
 use Rattle.board.specs.declared.Command.{Command}
 use Rattle.board.specs.declared.Code.{Code}
 use Rattle.board.specs.declared.Code.TheVariants.{AddEdge, RemoveEdge, ChangeEdge}
-use Rattle.board.proofs.Rules.{stable, first_done, first_other, first_refused, first_next}
-use Rattle.refusals.specs.Refusals.{Malformed, as_senior, as_junior, needed, Missing, edge_kind, PartsStand, Standing, Lacking, scoped, strictly, InScope, Names, unscoped, by_rights, by_scope, before}
+use Rattle.board.proofs.Rules.{stable}
+use Rattle.refusals.specs.Refusals.{Malformed, as_senior, as_junior, needed, Missing, edge_kind, PartsStand, Standing, Lacking, scoped, strictly, InScope, Names, by_rights, by_scope}
 use Rattle.refusals.specs.Refusals.{Malformed.no_code, Malformed.no_actor, Malformed.no_role, Malformed.no_junior, Malformed.no_kind, Malformed.no_rights, Standing.role, Standing.edge, Lacking.no_part, Lacking.no_edge}
 use Rattle.refusals.specs.Entitled.{Entitled}
-use Rattle.refusals.proofs.Blaming.{OnEdge, edge_is, names_plain, names_six, strict_asked}
+use Rattle.refusals.specs.Trusting.{DerivesBy, BlamesBy, before_trusting}
+use Rattle.hierarchy.specs.Views.{ScopeBy}
+use Rattle.refusals.proofs.Blaming.{OnEdge, edge_is, names_plain, strict_asked}
 
 -- ---- row 2
 
@@ -231,55 +235,46 @@ module _ (b : Tables) (c : Command) where
         rows (no_part e n) = inl (e, n)
         rows (no_edge e z) = inr (e, λ k. k z)
 
--- ---- the rows on the board handed in
+-- ---- the rows on the board handed in, one after the other
 
-module _ (b : Tables) (c : Command) where
-  pub refused_2 : Malformed c → First (unscoped b c) 2
-  refused_2 m = hit _ _ _ m
+-- row 6 where nobody offends
+pub scope_holds : {In : ℕ → ℕ → Type 0} {Blame : Answer → Type 0} {c : Command} → InScope In c → First (by_scope In c) 0 × Names Blame (plain 0)
+scope_holds s = (pass _ _ _ _ (λ k. k s) none, names_plain 0 (λ q. omega arith))
 
-  module _ (formed : Malformed c → ⊥) where
-    pub refused_3 : Missing b c → First (unscoped b c) 3
-    refused_3 m = pass _ _ _ _ formed (hit _ _ _ m)
+-- what is answered of the command c, by what is known of d, which is c with its numbers in range
+module _ (b : Board) {c d : Command} (e : d ≡ c) where
+  abbrev Down : Command → Answer → Type 0
+  Down k m = First (before_trusting b k) m.number × Names (BlamesBy b.kept.derives b.kept.derivers k) m
 
-    module _ (present : Missing b c → ⊥) where
-      pub refused_4 : Standing b c → First (unscoped b c) 4
-      refused_4 s = pass _ _ _ _ formed (pass _ _ _ _ present (hit _ _ _ s))
+  abbrev t : Tables
+  t = tables_of b
 
-      module _ (free : Standing b c → ⊥) where
-        pub refused_5 : Lacking b c → First (unscoped b c) 5
-        refused_5 n = pass _ _ _ _ formed (pass _ _ _ _ present (pass _ _ _ _ free (hit _ _ _ n)))
+  answers : (n : ℕ) → n ≢ 6 → First (before_trusting b d) n → Down c (plain n)
+  answers n six f = subst (λ (k : Command). Down k (plain n)) e (f, names_plain n six)
 
-        pub refused_not : (Lacking b c → ⊥) → First (unscoped b c) 0
-        refused_not there = pass _ _ _ _ formed (pass _ _ _ _ present (pass _ _ _ _ free (pass _ _ _ _ there none)))
+  module _ (formed : Malformed d → ⊥) where
+    pub row_3 : Missing t d → Down c (plain 3)
+    row_3 m = answers 3 (λ q. omega arith) (pass _ _ _ _ formed (hit _ _ _ m))
 
--- row 6, with whom it names
-module _ (In : ℕ → ℕ → Type 0) (Blame : Answer → Type 0) (c : Command) {m : Answer} where
-  pub scope_holds : InScope In c → m ≡ plain 0 → First (by_scope In c) m.number × Names Blame m
-  scope_holds s e = subst (λ (k : Answer). First (by_scope In c) k.number × Names Blame k) (sym e) (pass _ _ _ _ (λ k. k s) none, names_plain 0 (λ q. omega arith))
+    module _ (present : Missing t d → ⊥) where
+      pub row_4 : Standing t d → Down c (plain 4)
+      row_4 s = answers 4 (λ q. omega arith) (pass _ _ _ _ formed (pass _ _ _ _ present (hit _ _ _ s)))
 
-  pub scope_fails : (InScope In c → ⊥) → (m.number ≡ 6) × Blame m → First (by_scope In c) m.number × Names Blame m
-  scope_fails n q = (subst (First (by_scope In c)) (sym q.0) (hit _ _ _ n), names_six q.0 q.1)
+      module _ (free : Standing t d → ⊥) where
+        pub row_5 : Lacking t d → Down c (plain 5)
+        row_5 n = answers 5 (λ q. omega arith) (pass _ _ _ _ formed (pass _ _ _ _ present (pass _ _ _ _ free (hit _ _ _ n))))
 
--- the rows on the board handed in, one after the other
-module _ (Derive In : ℕ → ℕ → Type 0) (Blame : Answer → Type 0) (t : Tables) (rights : List ℕ) (c : Command) where
-  abbrev early : List (ℕ × Type 0)
-  early = unscoped t c
+        module _ (there : Lacking t d → ⊥) where
+          past_5 : (n : ℕ) → First (by_rights (DerivesBy b.kept.derives) b.rights d ++ by_scope (ScopeBy b.kept.derives b.kept.derivers) d) n → First (before_trusting b d) n
+          past_5 n f = pass _ _ _ _ formed (pass _ _ _ _ present (pass _ _ _ _ free (pass _ _ _ _ there f)))
 
-  abbrev Down : Answer → Type 0
-  Down m = First (before Derive In t rights c) m.number × Names Blame m
+          pub row_13 : (Entitled (DerivesBy b.kept.derives) b.rights d → ⊥) → Down c (plain 13)
+          row_13 n = answers 13 (λ q. omega arith) (past_5 13 (hit _ _ _ n))
 
-  plainly : (n : ℕ) → n ≢ 6 → First (before Derive In t rights c) n → {m : Answer} → m ≡ plain n → Down m
-  plainly n d f is = subst (λ (m : Answer). Down m) (sym is) (f, names_plain n d)
+          pub row_6 : Entitled (DerivesBy b.kept.derives) b.rights d → {m : Answer}
+              → First (by_scope (ScopeBy b.kept.derives b.kept.derivers) d) m.number × Names (BlamesBy b.kept.derives b.kept.derivers d) m → Down c m
+          row_6 right {m} f = subst (λ (k : Command). Down k m) e (past_5 m.number (pass _ _ _ _ (λ k. k right) f.0), f.1)
 
-  pub down_early : (n : ℕ) → n ≢ 0 → First early n → {m : Answer} → m ≡ plain n → Down m
-  down_early n h f = plainly n (first_other 6 early refl n f) (first_refused early _ n h f)
-
-  module _ (k : ℕ) (short : k ≡ 0) (fine : First early k) where
-    past_early : (n : ℕ) → First (by_rights Derive rights c ++ by_scope In c) n → First (before Derive In t rights c) n
-    past_early n f = first_next early _ n (first_done early refl (subst (First early) short fine)) f
-
-    pub down_unentitled : (Entitled Derive rights c → ⊥) → {m : Answer} → m ≡ plain 13 → Down m
-    down_unentitled n = plainly 13 (λ e. omega arith) (past_early 13 (hit _ _ _ n))
-
-    pub down_scope : Entitled Derive rights c → {m : Answer} → First (by_scope In c) m.number × Names Blame m → Down m
-    down_scope right {m} f = (past_early m.number (pass _ _ _ _ (λ k. k right) f.0), f.1)
+-- row 2
+pub row_2 : (b : Board) (c : Command) → Malformed c → First (before_trusting b c) 2 × Names (BlamesBy b.kept.derives b.kept.derivers c) (plain 2)
+row_2 b c m = (hit _ _ _ m, names_plain 2 (λ q. omega arith))

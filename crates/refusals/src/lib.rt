@@ -74,7 +74,9 @@ fn lacking(t: &Tables, f: &Formed) -> bool
 pub fn refused_on_board(b: &Board, c: Command) -> Result<(), Refusal>
     ensures { First (before_trusting b.now c) (answer result).number × Names (BlamesBy b.now.kept.derives b.now.kept.derivers c) (answer result) }
 {
-    let f = Formed::of(c).ok_or(Refusal::Malformed)?;
+    let Some(f) = Formed::of(c) else {
+        return Err(Refusal::Malformed);
+    };
     if missing(&b.tables, &f) {
         return Err(Refusal::Missing);
     }

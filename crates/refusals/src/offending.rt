@@ -1,10 +1,9 @@
 // Whom a 6 names: who is not in the scope that is asked of it, and why.
-ghost use Rattle.std.specs.Prelude.{Some, ◌≡◌, MatchOption, ◌<◌};
+ghost use Rattle.std.specs.Prelude.{◌≡◌, MatchOption, ◌<◌};
 ghost use Rattle.hierarchy.specs.First.{First};
 ghost use Rattle.hierarchy.specs.Views.{ScopeBy};
 ghost use Rattle.sets.specs.Sets.{◌is_in◌, ◌are_in◌};
-ghost use Rattle.scopes.specs.Bars.{bar_cause, bar_way};
-ghost use Rattle.board.specs.Answers.{cause_number, cause_way, answer};
+ghost use Rattle.board.specs.Answers.{answer};
 ghost use Rattle.refusals.specs.Refusals.{LowestOut, InScope, conditions, Offends, Names, by_scope};
 ghost use Rattle.refusals.specs.Trusting.{BlamesBy};
 
@@ -12,7 +11,7 @@ use crate::formed::Formed;
 use board::Code;
 use board::answers::{Cause, Refusal};
 use hierarchy::working::Kept;
-use scopes::{Bar, bars, scope};
+use scopes::{bars, scope};
 use sets::{lowest, minus, single, without};
 
 // A role that offends, and whether strict scope is asked of it.
@@ -50,16 +49,6 @@ fn offending(all: u64, f: &Formed) -> Option<Offender>
     }
 }
 
-// Why a role that is barred is out of scope.
-fn cause_of(bar: Bar) -> Cause
-    ensures { (cause_number result ≡ bar_cause (Some bar)) × (cause_way result ≡ bar_way (Some bar)) }
-{
-    match bar {
-        Bar::NotDerived => Cause::NotDerived,
-        Bar::InTheWay(way) => Cause::InTheWay(way),
-    }
-}
-
 // The refusal by scope, with whom it names.
 pub(crate) fn refused_by_scope(kept: &Kept, f: &Formed) -> Result<(), Refusal>
     ensures { First (by_scope (ScopeBy kept.now.derives kept.now.derivers) f.now.command) (answer result).number × Names (BlamesBy kept.now.derives kept.now.derivers f.now.command) (answer result) }
@@ -71,7 +60,7 @@ pub(crate) fn refused_by_scope(kept: &Kept, f: &Formed) -> Result<(), Refusal>
     let cause = if o.strict && o.role == actor {
         Cause::Itself
     } else {
-        cause_of(bars(kept, actor, o.role).unwrap())
+        Cause::from(bars(kept, actor, o.role).unwrap())
     };
     Err(Refusal::OutOfScope {
         who: o.role as u8,

@@ -1,13 +1,9 @@
-use mathlib.Core.Path.{◌≡◌, refl, sym, ap, ◌∙◌, subst, subst₂}
-use mathlib.Core.Bool.{true}
-use mathlib.Core.Logic.{◌≢◌, ⊎_elim}
-use native.Mathlib.Omega.{arith}
-use Prim.Native.Nat.{ℕ}
+use mathlib.Core.Path.{sym, ◌∙◌, subst}
+use mathlib.Core.Logic.{⊎_elim}
 use Rattle.std.specs.Prelude.{Err}
 use Rattle.sets.proofs.Bools.{false_no}
 use Rattle.hierarchy.specs.First.{First}
-use Rattle.hierarchy.specs.Views.{ScopeBy, BarBy}
-use Rattle.scopes.specs.Bars.{bar_cause, bar_way}
+use Rattle.hierarchy.specs.Views.{ScopeBy}
 use Rattle.board.specs.Answers.{answer}
 use Rattle.board.specs.declared.answers.Cause.{Cause}
 use Rattle.board.specs.declared.answers.Refusal.TheVariants.{OutOfScope}
@@ -19,7 +15,7 @@ use Rattle.refusals.proofs.offending.refused_by_scope.Goals as goal
 use Rattle.refusals.proofs.offending.refused_by_scope.Goals.{then-o+then-o-actor, else-o}
 
 pub returns-in_default : goal.returns-in_default
-returns-in_default c = scope_holds _ _ _ ((in_scope_alike c.args.f.now.command c.scope.ensures).0 c.in_default.ensures) refl
+returns-in_default c = scope_holds ((in_scope_alike c.args.f.now.command c.scope.ensures).0 c.in_default.ensures)
 
 pub unwrap-requires : goal.unwrap-requires
 unwrap-requires c =
@@ -33,11 +29,8 @@ returns c =
     let f = c.args.f.now in
     let Says : Cause → Type 0 = λ (cause : Cause). First (by_scope (ScopeBy k.derives k.derivers) f.command) 6 × Names (BlamesBy k.derives k.derivers f.command) (answer {A = Unit {0}} (Err (OutOfScope c.in-Some.o.role cause))) in
     elim c.if-o.branch [
-      then-o+then-o-actor w ↦ subst Says (sym w.cause-is) (six_itself k.derives k.derivers c.scope.result f.command c.scope.ensures c.in-Some.ensures.1 w.if-o.true w.if-o-actor.true)
-    | else-o w ↦
-        let b = w.cause_of-cause.ensures in
-        subst Says (sym w.cause-is) (six_barred k.derives k.derivers c.scope.result f.command c.scope.ensures c.in-Some.ensures.1
-        (λ t e. ⊎_elim (λ v. v.1 (sym e)) (λ v. false_no v t) w.else-o.either)
-        (subst₂ (λ (n m : ℕ). BarBy k.derives k.derivers f.command.actor c.in-Some.o.role n m)
-        (sym (b.0 ∙ ap bar_cause (sym w.unwrap.ensures))) (sym (b.1 ∙ ap bar_way (sym w.unwrap.ensures))) w.bars.ensures))
+      | then-o+then-o-actor w ↦ subst Says (sym w.cause-is) (six_itself k.derives k.derivers c.scope.result f.command c.scope.ensures c.in-Some.ensures.1 w.if-o.true w.if-o-actor.true)
+      | else-o w ↦
+          subst Says (sym (w.cause-is ∙ w.from-cause.ensures)) (six_barred k.derives k.derivers c.scope.result f.command c.scope.ensures c.in-Some.ensures.1
+          (λ t e. ⊎_elim (λ v. v.1 (sym e)) (λ v. false_no v t) w.else-o.either) w.unwrap.result (rw w.unwrap.ensures at w.bars.ensures))
     ]
