@@ -1,5 +1,5 @@
 // Line managers, read off the views of a board whose live roles are in order.
-ghost use Rattle.std.specs.Prelude.{◌≡◌, true, ◌↔◌, ◌≢◌, ℕ, ◌<◌};
+ghost use Rattle.std.specs.Prelude.{◌≡◌, true, ◌↔◌, ◌≢◌, ℕ, ◌<◌, unwrap_or};
 ghost use Rattle.sets.specs.Sets.{◌is_in◌};
 ghost use Rattle.hierarchy.specs.Tables.{Tables};
 ghost use Rattle.hierarchy.specs.Views.{manager_at};
@@ -8,7 +8,7 @@ ghost use Rattle.hierarchy.specs.Engine.{Above, AdminsOf, NearestIs, Orderly, Ma
 use crate::working::Kept;
 use sets::{common, highest, roles_of, union, without};
 
-// what stands for no line manager: it is no role
+// What stands for no line manager in a row of them, also for C: it is no role.
 pub(crate) const NONE: u8 = 64;
 
 // The administrators of r: of what derives it, but r itself, those that are above or below all that does.
@@ -25,13 +25,13 @@ fn administrators_of(kept: &Kept, r: usize) -> u64
 
 // Of the administrators of a role the one that all others derive: from any of them on, the highest number first, it goes to one that this
 // derives, until that derives no other.
-fn nearest(derives: &[u64; 64], administrators: u64) -> u8
-    ensures { (t : Tables) (r : ℕ) → AdminsOf t derives.now administrators r → NearestIs t r result }
+fn nearest(derives: &[u64; 64], administrators: u64) -> Option<u8>
+    ensures { (t : Tables) (r : ℕ) → AdminsOf t derives.now administrators r → NearestIs t r (unwrap_or result 64) }
 {
-    let mut found = NONE;
+    let mut found = None;
     let mut left = administrators;
     while let Some(m) = highest(left) {
-        found = m as u8;
+        found = Some(m as u8);
         left = common(without(left, m), derives[m]);
     }
     found
@@ -44,7 +44,7 @@ pub(crate) fn fill_managers(live: u64, kept: &mut Kept)
 {
     kept.manager = [NONE; 64];
     for r in roles_of(live) {
-        kept.manager[r] = nearest(&kept.derives, administrators_of(kept, r));
+        kept.manager[r] = nearest(&kept.derives, administrators_of(kept, r)).unwrap_or(NONE);
     }
 }
 
