@@ -1,5 +1,5 @@
 // The views of a board: what each role derives, and what derives it.
-ghost use Rattle.std.specs.Prelude.{◌≡◌, ◌↔◌, ℕ, ◌<◌, length};
+ghost use Rattle.std.specs.Prelude.{◌≡◌, ◌↔◌, ℕ, ◌<◌};
 ghost use Rattle.sets.specs.Sets.{◌is_in◌};
 ghost use Rattle.hierarchy.specs.Views.{Turned};
 ghost use Rattle.hierarchy.specs.Engine.{InRows, RowSettled, Ready, Finished, Starts, Descended, FilledDown, Marked};
@@ -21,7 +21,7 @@ fn rows(table: &[u64; 64], s: u64) -> u64
 
 // The row of role x is what it has of its own and the rows of its juniors in the table.
 fn settle(table: &[u64; 64], reach: &mut [u64; 64], x: usize, own: u64) -> u64
-    requires { (x < 64) × (length reach.old ≡ 64) }
+    requires { x < 64 }
     ensures { RowSettled table.now reach.old x own result reach.new }
 {
     let below = rows(reach, table[x]);
@@ -73,7 +73,7 @@ fn descend(t: &Tables, kept: &mut Kept, start: u64, root: usize) -> u64
 
 // x goes into the row of each role of s.
 fn mark(up: &mut [u64; 64], s: u64, x: usize)
-    requires { (x < 64) × (length up.old ≡ 64) }
+    requires { x < 64 }
     ensures { Marked up.old s x up.new }
 {
     for y in roles_of(s) {
