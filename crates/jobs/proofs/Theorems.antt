@@ -23,8 +23,7 @@ use Rattle.jobs.specs.Lists.{Jobs, role_at, is_listed, is_held, is_open, Held, O
 use Rattle.jobs.specs.Answers.{Fits, new_list, start_refusals, StartAnswer, Settles, StateIs, LookAnswer}
 use Rattle.jobs.specs.Histories.{Event, Entry, entry_of, EventAnswer, Went, History, claim_of, release_of, member_of, claims_of, releases_of, unreleased_of, LatestClaim, how_many}
 use Rattle.jobs.specs.Histories.{Event.claim, Event.release, Went.over, Went.then}
-use Rattle.jobs.specs.declared.State.{State}
-use Rattle.jobs.specs.declared.State.TheVariants.{IsOpen, HeldBy as IsHeldBy}
+use Rattle.std.specs.Prelude.{Option, Some, None}
 use Rattle.jobs.proofs.Steps.{Whole, Did, open_not_held, step, stays_whole}
 use Rattle.jobs.proofs.Steps.{Did.takes, Did.frees, Did.leaves}
 
@@ -273,17 +272,17 @@ same_holder : (jobs : Jobs) (j : ℕ) {m n : ℕ} → HeldBy jobs j m → HeldBy
 same_holder jobs j h k = sym h.1 ∙ k.1
 
 -- and to the same look at a job.
-pub look_unique : (jobs : Jobs) (j : ℕ) {m n : ℕ} {v w : State} → LookAnswer jobs j m v → LookAnswer jobs j n w → (m ≡ n) × (v ≡ w)
+pub look_unique : (jobs : Jobs) (j : ℕ) {m n : ℕ} {v w : Option ℕ} → LookAnswer jobs j m v → LookAnswer jobs j n w → (m ≡ n) × (v ≡ w)
 look_unique jobs j = answered_unique (λ _. one)
   where
     apart : Open jobs j → Held jobs j → ⊥
     apart o = false_no (open_not_held (is_listed jobs j) (eqb (get_or jobs.marks j 0) 0) o)
 
-    one : (v w : State) → StateIs jobs j v → StateIs jobs j w → v ≡ w
-    one IsOpen IsOpen p q = refl
-    one IsOpen (IsHeldBy n) p q = absurd (apart p q.0)
-    one (IsHeldBy m) IsOpen p q = absurd (apart q p.0)
-    one (IsHeldBy m) (IsHeldBy n) p q = ap IsHeldBy (same_holder jobs j p q)
+    one : (v w : Option ℕ) → StateIs jobs j v → StateIs jobs j w → v ≡ w
+    one None None p q = refl
+    one None (Some n) p q = absurd (apart p q.0)
+    one (Some m) None p q = absurd (apart q p.0)
+    one (Some m) (Some n) p q = ap Some (same_holder jobs j p q)
 
 same_went : {jobs other x y : Jobs} {log : List Entry} → jobs ≡ other → Went jobs log x → Went other log y → x ≡ y
 same_went e over over = e

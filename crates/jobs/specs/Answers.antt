@@ -1,5 +1,5 @@
 -- What a start, a claim, a release and a look at a job answer, and what they leave of the list.
-use Rattle.std.specs.Prelude.{◌≡◌, ◌≢◌, List, [], ◌∷◌, ◌++◌, ℕ, ◌-◌, ◌≤◌, ◌<◌, length, get_or, replicate}
+use Rattle.std.specs.Prelude.{◌≡◌, ◌≢◌, List, [], ◌∷◌, ◌++◌, ℕ, ◌-◌, ◌≤◌, ◌<◌, length, get_or, replicate, Option, Some, None}
 use Rattle.hierarchy.specs.Words.{Derives, Scope}
 use Rattle.hierarchy.specs.First.{First}
 use Rattle.board.specs.Boards.{tables_of}
@@ -7,8 +7,6 @@ use Rattle.board.specs.Asked.{Answered}
 use Rattle.board.specs.declared.Board.{Board}
 use Rattle.questions.specs.Questions.{refusals}
 use Rattle.jobs.specs.Lists.{Jobs, jobs_of, role_of, Open, Held, HeldBy, taken, freed}
-use Rattle.jobs.specs.declared.State.{State}
-use Rattle.jobs.specs.declared.State.TheVariants.{IsOpen, HeldBy as IsHeldBy}
 
 -- what an answer settles: the number by its table, and the list left, one where it is refused and another where it is done
 pub record Settles (rules : List (ℕ × Type 0)) (otherwise after : Jobs) (number : ℕ) (list : Jobs) : Type 0 where
@@ -61,11 +59,17 @@ ClaimAnswer b jobs j m r = Settles (claim_refusals b jobs j r) jobs (taken jobs 
 abbrev pub ReleaseAnswer : Board → Jobs → ℕ → ℕ → ℕ → ℕ → Jobs → Type 0
 ReleaseAnswer b jobs j m r = Settles (release_refusals b jobs j m r) jobs (freed jobs j)
 
--- ---- a look at job j: 2 past the list, and then open is said; else its state
+-- ---- who holds job j: None, where its mark is 0
 
-abbrev pub StateIs : Jobs → ℕ → State → Type 0
-StateIs jobs j IsOpen = Open jobs j
-StateIs jobs j (IsHeldBy m) = HeldBy jobs j m
+abbrev pub HolderOf : List ℕ → List ℕ → ℕ → Option ℕ → Type 0
+HolderOf marks members j None = get_or marks j 0 ≡ 0
+HolderOf marks members j (Some m) = (get_or marks j 0 ≢ 0) × (get_or members j 0 ≡ m)
 
-abbrev pub LookAnswer : Jobs → ℕ → ℕ → State → Type 0
-LookAnswer jobs j = Answered ((2, 63 < role_of jobs j) ∷ []) (StateIs jobs j) IsOpen
+-- ---- a look at job j: 2 past the list, and then nobody is said to hold it; else who does, if it is held
+
+abbrev pub StateIs : Jobs → ℕ → Option ℕ → Type 0
+StateIs jobs j None = Open jobs j
+StateIs jobs j (Some m) = HeldBy jobs j m
+
+abbrev pub LookAnswer : Jobs → ℕ → ℕ → Option ℕ → Type 0
+LookAnswer jobs j = Answered ((2, 63 < role_of jobs j) ∷ []) (StateIs jobs j) None
