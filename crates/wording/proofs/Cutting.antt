@@ -1,32 +1,39 @@
 -- The pieces of a text from a place on: where the first of them ends, and what lies behind it. Every loop over pieces goes by `turn`.
 -- Assumes nothing.
-use mathlib.Core.Path.{◌≡◌, refl, ap, ◌∙◌}
+use mathlib.Core.Path.{◌≡◌, refl, sym, ap, ◌∙◌}
+use borrow.Author.Tests.{ltb-false}
 use mathlib.Core.Bool.{Bool, true, false, cond}
 use mathlib.Core.List.{List, [], ◌∷◌}
+use Rattle.std.specs.Prelude.{Some, None, unwrap_or, nat_lt, not}
+use Rattle.std.specs.List.{position, position_or_len, slice_range}
+use Rattle.std.specs.Borrow.{Bor}
+use Rattle.wording.specs.declared.pieces.Pieces.{Pieces}
 use Prim.Native.Nat.{ℕ, zero, suc, ◌+◌, ◌-◌, ◌≤◌, ◌<◌, zero-le, suc-le-suc}
 use native.Mathlib.Nat.{le_of_suc-le-suc, not-suc-le-zero, suc-add, zero-add}
-use native.Mathlib.Numerals.{add-one}
 use native.Mathlib.Omega.{arith}
 use lib.ListN.{length, get_or, take, drop, length-take, length-drop, drop_of_length-le}
-use lib.Seq.{drop-cons}
-use Rattle.wording.specs.Texts.{separates, piece, longer, pieces, filled, word_at, beginnings, word_start}
+use lib.Seq.{take-length}
+use Rattle.wording.specs.Texts.{separates, piece, longer, pieces, filled, word_at, beginnings, word_start, rest_of, Given, WordOf}
 
 -- ---- where a piece ends
 
 abbrev pub end_of : ℕ → List ℕ → ℕ → ℕ
 end_of sep text from = from + length (piece sep (drop from text))
 
+-- the piece at the start of a text is what stands before its first separator
+piece_len : (sep : ℕ) (l : List ℕ) → length (piece sep l) ≡ position_or_len (separates sep) l
+unfolding piece
+piece_len sep [] = refl
+piece_len sep (b ∷ rest) = go (separates sep b) (piece_len sep rest)
+  where
+    go : (p : Bool) → length (piece sep rest) ≡ position_or_len (separates sep) rest
+        → length (cond p [] (b ∷ piece sep rest)) ≡ cond (not p) (1 + position_or_len (separates sep) rest) 0
+    go true ih = refl
+    go false ih = omega arith
+
 pub end_over : (sep : ℕ) (text : List ℕ) (at : ℕ) → length text ≤ at → end_of sep text at ≡ at
 unfolding piece
 end_over sep text at h = rw (drop_of_length-le text h) (omega arith)
-
-pub end_turn : (sep : ℕ) (text : List ℕ) (at : ℕ) → at < length text → end_of sep text at ≡ cond (separates sep (get_or text at 0)) at (end_of sep text (at + 1))
-unfolding piece
-end_turn sep text at h = rw (drop-cons text at 0 h, add-one at) (go (separates sep (get_or text at 0)) (piece sep (drop (suc at) text)))
-  where
-    go : (p : Bool) (rest : List ℕ) → at + length (cond p [] (get_or text at 0 ∷ rest)) ≡ cond p at (suc at + length rest)
-    go true rest = omega arith
-    go false rest = omega arith
 
 piece_within : (sep : ℕ) (l : List ℕ) → length (piece sep l) ≤ length l
 unfolding piece
@@ -37,12 +44,18 @@ piece_within sep (b ∷ rest) = go (separates sep b) (piece_within sep rest)
     go true h = zero-le
     go false h = suc-le-suc h
 
--- ---- the pieces from a place on; past the end there are none
+pub piece_to : (sep : ℕ) (l : List ℕ) → length (piece sep l) ≡ unwrap_or (position (separates sep) l) (length l)
+piece_to sep l = piece_len sep l ∙ go (nat_lt (position_or_len (separates sep) l) (length l)) refl
+  where
+    go : (q : Bool) → nat_lt (position_or_len (separates sep) l) (length l) ≡ q
+        → position_or_len (separates sep) l ≡ unwrap_or (cond q (Some (position_or_len (separates sep) l)) None) (length l)
+    go true e = refl
+    go false e = omega (arith, ltb-false _ _ e, piece_len sep l, piece_within sep l)
 
-unfoldable pub rest_of : ℕ → List ℕ → ℕ → List (List ℕ)
-rest_of sep text zero = pieces sep text
-rest_of sep [] (suc from) = []
-rest_of sep (b ∷ rest) (suc from) = rest_of sep rest from
+pub to_the_end : (from : ℕ) (l : List ℕ) → slice_range l from (length l) ≡ drop from l
+to_the_end from l = ap (λ (n : ℕ). take n (drop from l)) (sym (length-drop from l)) ∙ take-length (drop from l)
+
+-- ---- the pieces from a place on; past the end there are none
 
 pub rest_over : (sep : ℕ) (text : List ℕ) (from : ℕ) → length text < from → rest_of sep text from ≡ []
 unfolding rest_of
@@ -87,67 +100,90 @@ turn sep text from end h e = record {
     past : suc (end_of sep text from) ≡ end + 1
     past = omega arith
 
+-- what a turn over pieces gives
+pub given : {s : Pieces} {part : Bor (List ℕ)} {t : Pieces} (end : ℕ) → s.from ≤ length s.text.now → end ≡ end_of s.sep s.text.now s.from
+    → t ≡ record s { from = end + 1 } → part.now ≡ take (end - s.from) (drop s.from s.text.now) → part.ref_ptr.0 ≡ s.text.ref_ptr.0 → part.ref_ptr.1 ≡ s.text.ref_ptr.1 + s.from
+    → Given s part t
+given {s} {part} {t} end low e n p block begins =
+    let cut : Turn s.sep s.text.now s.from end = turn s.sep s.text.now s.from end low e in
+    record {
+      same_text = ap (λ (q : Pieces). q.text) n;
+      same_sep = ap (λ (q : Pieces). q.sep) n;
+      within = rw n (omega (arith, cut.high));
+      first = rw (n, p) cut.cut;
+      behind = rw (n, p, length-take (end - s.from) (drop s.from s.text.now), length-drop s.from s.text.now) (omega (arith, cut.low, cut.high));
+      block = block;
+      begins = begins;
+    }
+
 -- ---- the words of a line
 
-filled_some : (p : List ℕ) (ps : List (List ℕ)) → 0 < length p → filled (p ∷ ps) ≡ p ∷ filled ps
+filled_some : (p : List ℕ) (ps : List (List ℕ)) → (length p ≡ 0 → ⊥) → filled (p ∷ ps) ≡ p ∷ filled ps
 unfolding filled
-filled_some [] ps h = absurd (not-suc-le-zero h)
+filled_some [] ps h = absurd (h refl)
 filled_some (b ∷ p) ps h = refl
 
-begins_some : (at : ℕ) (p : List ℕ) (ps : List (List ℕ)) → 0 < length p → beginnings at (p ∷ ps) ≡ at ∷ beginnings (at + length p + 1) ps
+begins_some : (at : ℕ) (p : List ℕ) (ps : List (List ℕ)) → (length p ≡ 0 → ⊥) → beginnings at (p ∷ ps) ≡ at ∷ beginnings (at + length p + 1) ps
 unfolding beginnings
-begins_some at [] ps h = absurd (not-suc-le-zero h)
+begins_some at [] ps h = absurd (h refl)
 begins_some at (b ∷ p) ps h = refl
 
--- the word at k of the line is the one at `left` of what lies from `from` on
-pub record Looking (line : List ℕ) (k left from : ℕ) : Type 0 where
-  pub within : from ≤ length line + 1
-  pub same : get_or (filled (rest_of 32 line from)) left [] ≡ word_at line k
-  pub begins : get_or (beginnings from (rest_of 32 line from)) left 0 ≡ word_start line k
+filled_none : (p : List ℕ) (ps : List (List ℕ)) → length p ≡ 0 → filled (p ∷ ps) ≡ filled ps
+unfolding filled
+filled_none [] ps h = refl
+filled_none (b ∷ p) ps h = absurd (omega arith)
 
-pub look_start : (line : List ℕ) (k : ℕ) → Looking line k k 0
+begins_none : (at : ℕ) (p : List ℕ) (ps : List (List ℕ)) → length p ≡ 0 → beginnings at (p ∷ ps) ≡ beginnings (at + 1) ps
+unfolding beginnings
+begins_none at [] ps h = refl
+begins_none at (b ∷ p) ps h = absurd (omega arith)
+
+-- the word at k of the line is the one at `left` of what lies from s on
+pub record Looking (line : Bor (List ℕ)) (k left : ℕ) (s : Pieces) : Type 0 where
+  pub text : s.text ≡ line
+  pub sep : s.sep ≡ 32
+  pub same : get_or (filled (rest_of 32 line.now s.from)) left [] ≡ word_at line.now k
+  pub begins : get_or (beginnings s.from (rest_of 32 line.now s.from)) left 0 ≡ word_start line.now k
+
+pub look_start : (s : Pieces) (k : ℕ) → s.from ≡ 0 → s.sep ≡ 32 → Looking s.text k k s
 unfolding rest_of
-look_start line k = record { within = zero-le; same = refl; begins = refl }
+look_start s k z e = record { text = refl; sep = e; same = rw z; begins = rw z }
 
-module _ {line : List ℕ} {k left from : ℕ} (l : Looking line k left from) where
-  pub look_over : length line < from → ([] ≡ word_at line k) × (0 ≡ word_start line k)
+module _ {line : Bor (List ℕ)} {s : Pieces} {k left : ℕ} (l : Looking line k left s) where
+  pub look_over : length s.text.now < s.from → WordOf line.now line.ref_ptr k [] line.ref_ptr
   unfolding filled beginnings
-  look_over h = (rw (rest_over 32 line from h) at l.same, rw (rest_over 32 line from h) at l.begins)
+  look_over h =
+      let over : length line.now < s.from = rw l.text at h in
+      let start : 0 ≡ word_start line.now k = rw (rest_over 32 line.now s.from over) at l.begins in
+      (rw (rest_over 32 line.now s.from over) at l.same, refl, omega arith)
 
-  module _ {end : ℕ} (t : Turn 32 line from end) where
-    none_begins : end ≤ from → beginnings from (rest_of 32 line from) ≡ beginnings (end + 1) (rest_of 32 line (end + 1))
-    unfolding beginnings
-    none_begins h =
-        let none : end - from ≡ 0 = omega arith in
-        let next : from + 1 ≡ end + 1 = omega arith in
-        ap (beginnings from) t.cut ∙ rw none (ap (λ (n : ℕ). beginnings n (rest_of 32 line (end + 1))) next)
+  module _ {part : Bor (List ℕ)} {t : Pieces} (g : Given s part t) where
+    cut : rest_of 32 line.now s.from ≡ part.now ∷ rest_of 32 line.now t.from
+    cut = rw (l.text, l.sep) at g.first
 
-    pub look_none : end ≤ from → Looking line k left (end + 1)
-    unfolding filled
-    look_none h = record { within = omega arith; same = rw (t.cut, none) at l.same; begins = rw (none_begins h) at l.begins }
+    pub look_none : length part.now ≡ 0 → Looking line k left t
+    look_none z = record {
+      text = g.same_text ∙ l.text;
+      sep = g.same_sep ∙ l.sep;
+      same = rw (cut, filled_none part.now (rest_of 32 line.now t.from) z) at l.same;
+      begins = rw (cut, begins_none s.from part.now (rest_of 32 line.now t.from) z, next) at l.begins;
+    }
       where
-        none : end - from ≡ 0
-        none = omega arith
+        next : s.from + 1 ≡ t.from
+        next = omega (arith, g.behind)
 
-    -- a piece with a byte, and where it begins
-    long : length (take (end - from) (drop from line)) ≡ end - from
-    long = simp (length-take, length-drop) (omega arith)
+    pub look_here : (length part.now ≡ 0 → ⊥) → left ≡ 0 → WordOf line.now line.ref_ptr k part.now part.ref_ptr
+    look_here h z =
+        let start : s.from ≡ word_start line.now k = rw (cut, begins_some s.from part.now (rest_of 32 line.now t.from) h, z) at l.begins in
+        (rw (cut, filled_some part.now (rest_of 32 line.now t.from) h, z) at l.same, rw l.text at g.block, rw (l.text, start) at g.begins)
 
-    some : from < end → filled (rest_of 32 line from) ≡ take (end - from) (drop from line) ∷ filled (rest_of 32 line (end + 1))
-    some h = ap filled t.cut ∙ filled_some (take (end - from) (drop from line)) (rest_of 32 line (end + 1)) (omega (arith, long))
-
-    some_begins : from < end → beginnings from (rest_of 32 line from) ≡ from ∷ beginnings (end + 1) (rest_of 32 line (end + 1))
-    some_begins h =
-        let next : from + length (take (end - from) (drop from line)) + 1 ≡ end + 1 = omega (arith, long) in
-        ap (beginnings from) t.cut
-        ∙ begins_some from (take (end - from) (drop from line)) (rest_of 32 line (end + 1)) (omega (arith, long))
-        ∙ ap (λ (n : ℕ). from ∷ beginnings n (rest_of 32 line (end + 1))) next
-
-    pub look_here : from < end → left ≡ 0 → (take (end - from) (drop from line) ≡ word_at line k) × (from ≡ word_start line k)
-    look_here h z = (rw (some h, z) at l.same, rw (some_begins h, z) at l.begins)
-
-    pub look_past : from < end → (left ≡ 0 → ⊥) → Looking line k (left - 1) (end + 1)
-    look_past h z = record { within = omega arith; same = rw (some h, more) at l.same; begins = rw (some_begins h, more) at l.begins }
+    pub look_past : (length part.now ≡ 0 → ⊥) → (left ≡ 0 → ⊥) → Looking line k (left - 1) t
+    look_past h z = record {
+      text = g.same_text ∙ l.text;
+      sep = g.same_sep ∙ l.sep;
+      same = rw (cut, filled_some part.now (rest_of 32 line.now t.from) h, more) at l.same;
+      begins = rw (cut, begins_some s.from part.now (rest_of 32 line.now t.from) h, more, sym g.behind) at l.begins;
+    }
       where
         more : left ≡ suc (left - 1)
         more = omega arith

@@ -1,69 +1,90 @@
 -- The set that a list of roles, or of rights, names. Assumes nothing.
 use mathlib.Core.Path.{◌≡◌, refl, sym, ap, ◌∙◌}
-use mathlib.Core.Bool.{Bool, true, false, ◌||◌, or_assoc, or-false, false≢true}
+use mathlib.Core.Bool.{Bool, true, ◌||◌, or_assoc, or-false, false≢true}
 use mathlib.Core.Logic.{⊎_elim}
 use mathlib.Core.List.{List, [], ◌∷◌}
-use Prim.Native.Nat.{ℕ, ◌+◌, ◌-◌, ◌^◌, ◌≤◌, ◌<◌, zero-le, suc-le-suc}
+use Rattle.std.specs.Prelude.{Option, Some, None, IfSome}
+use Rattle.std.specs.Borrow.{Bor}
+use Prim.Native.Nat.{ℕ, ◌^◌, ◌≤◌, ◌<◌, zero-le}
 use native.Mathlib.Nat.{le_trans}
 use native.Mathlib.Omega.{arith}
-use lib.Dec.{eqb, leb, lit<, lit≤}
-use lib.ListN.{length, take, drop}
+use lib.Dec.{eqb, lit<, lit≤}
+use lib.ListN.{length}
 use lib.Pow.{pow_mono}
-use borrow.Author.Tests.{le-leb, lt-leb, leb-true, eqb-true, eq-eqb}
+use borrow.Author.Tests.{eqb-true, eq-eqb, ne_eqb}
 use Rattle.sets.specs.Sets.{bit, same?, digits, set_of}
-use Rattle.sets.proofs.Bools.{or_cases, or_left, and_left, and_right, not_so, false_no, lt_or_ge, cond_elim}
+use Rattle.sets.proofs.Bools.{or_cases, or_left, and_left, not_so, false_no, lt_or_ge, cond_elim}
 use Rattle.sets.proofs.Digits.{bit_zero, bit_out, digits_fit, bit_digits}
-use Rattle.sets.proofs.Laws.{ext, same_is, set_of_fits, bit_set_of, is_set_of}
-use Rattle.wording.specs.Texts.{bytes, alike?, pieces}
-use Rattle.wording.specs.Names.{role_of, name_of, most, all_named?, named?, no_members, members_of, rights_of}
-use Rattle.wording.specs.declared.names.Listed.{Listed}
-use Rattle.wording.proofs.Cutting.{end_of, rest_of, rest_over, Turn, turn}
+use Rattle.sets.proofs.Laws.{ext, same_is, same_out, set_of_fits, bit_set_of, is_set_of}
+use Rattle.wording.specs.Texts.{bytes, alike?, separates, longer, pieces, rest_of, Given}
+use Rattle.wording.specs.Names.{role_of, right_of, one?, is?, all_named?, named?, members_of, rights_of}
+use Rattle.wording.specs.declared.pieces.Pieces.{Pieces}
+use Rattle.wording.proofs.Cutting.{end_of, rest_over, turn}
+use Rattle.wording.proofs.Numbers.{role_low}
+use Rattle.wording.proofs.Placing.{place_low}
+
+same_of : (x y : ℕ) → y < 64 → same? x y ≡ eqb y x
+same_of x y h = ⊎_elim
+    (λ (l : x < 64). same_is x y l)
+    (λ (g : 64 ≤ x). same_out x y g ∙ sym (ne_eqb y x (λ e. absurd (omega arith))))
+    (lt_or_ge x 64)
 
 -- ---- the loop: the set so far, and the pieces from a place on
 
-pub record Listing (rights : Bool) (text : List ℕ) (set from : ℕ) : Type 0 where
-  pub within : from ≤ length text + 1
+pub record Listing (name : List ℕ → Option ℕ) (text : List ℕ) (set : ℕ) (s : Pieces) : Type 0 where
+  pub whole : s.text.now ≡ text
+  pub sep : s.sep ≡ 44
   pub fits : set < 2 ^ 64
-  pub fine : all_named? rights (rest_of 44 text from) ≡ all_named? rights (pieces 44 text)
-  pub so_far : (x : ℕ) → (bit set x || named? rights (rest_of 44 text from) x) ≡ named? rights (pieces 44 text) x
+  pub fine : all_named? name (rest_of 44 text s.from) ≡ all_named? name (pieces 44 text)
+  pub so_far : (x : ℕ) → x < 64 → (bit set x || named? name (rest_of 44 text s.from) x) ≡ named? name (pieces 44 text) x
 
-pub list_start : (rights : Bool) (text : List ℕ) → Listing rights text 0 0
+pub list_start : (name : List ℕ → Option ℕ) {text : Bor (List ℕ)} {s : Pieces} → s.text ≡ text → s.from ≡ 0 → s.sep ≡ 44 → Listing name text.now 0 s
 unfolding rest_of
-list_start rights text = record { within = zero-le; fits = lit< tt; fine = refl; so_far = λ x. rw (bit_zero x) }
+list_start name w z e = record { whole = ap (λ (b : Bor (List ℕ)). b.now) w; sep = e; fits = lit< tt; fine = rw z; so_far = λ x _. rw (z, bit_zero x) }
 
-module _ {rights : Bool} {text : List ℕ} {set from : ℕ} (l : Listing rights text set from) where
-  pub list_over : length text < from → record { fine = true; set = set } ≡ members_of rights text
+module _ {name : List ℕ → Option ℕ} {text : List ℕ} {set : ℕ} {s : Pieces} (l : Listing name text set s) where
+  pub list_over : length s.text.now < s.from → Some set ≡ members_of name text
   unfolding members_of all_named? named?
-  list_over h = let none = rest_over 44 text from h in
-      rw (← l.fine, none, is_set_of set (named? rights (pieces 44 text)) l.fits (λ x _. sym (or-false (bit set x)) ∙ rw none at (l.so_far x)))
+  list_over h =
+      let over : length text < s.from = rw l.whole at h in
+      let none = rest_over 44 text s.from over in
+      rw (← l.fine, none, is_set_of set (named? name (pieces 44 text)) l.fits (λ x h. sym (or-false (bit set x)) ∙ rw none at (l.so_far x h)))
 
-  module _ {end x : ℕ} (t : Turn 44 text from end) (e : x ≡ name_of rights (take (end - from) (drop from text))) where
-    pub list_wrong : most rights < x → no_members ≡ members_of rights text
+  module _ {part : Bor (List ℕ)} {t : Pieces} (g : Given s part t) where
+    cut : rest_of 44 text s.from ≡ part.now ∷ rest_of 44 text t.from
+    cut = rw (l.whole, l.sep) at g.first
+
+    pub list_wrong : None ≡ name part.now → None ≡ members_of name text
     unfolding members_of all_named?
-    list_wrong h = rw (← l.fine, t.cut, ← e, lt-leb x (most rights) h)
+    list_wrong e = rw (← l.fine, cut, ← e)
 
-    pub list_next : x ≤ most rights → (next : ℕ) → next < 2 ^ 64 → ((y : ℕ) → bit next y ≡ (bit set y || same? x y)) → Listing rights text next (end + 1)
+    pub list_next : {x : ℕ} → Some x ≡ name part.now → (next : ℕ) → next < 2 ^ 64 → ((y : ℕ) → bit next y ≡ (bit set y || same? x y)) → Listing name text next t
     unfolding all_named? named?
-    list_next h next f w = record {
-      within = omega arith;
+    list_next {x} e next f w = record {
+      whole = ap (λ (b : Bor (List ℕ)). b.now) g.same_text ∙ l.whole;
+      sep = g.same_sep ∙ l.sep;
       fits = f;
-      fine = rw (t.cut, ← e, le-leb x (most rights) h) at l.fine;
-      so_far = λ y. rw (w y, same_is x y (role rights h), or_assoc) (rw (t.cut, ← e) at (l.so_far y));
+      fine = rw (cut, ← e) at l.fine;
+      so_far = λ y h. rw (w y, same_of x y h, or_assoc) (rw (cut, ← e) at (l.so_far y h));
     }
-      where
-        role : (rights : Bool) → x ≤ most rights → x < 64
-        role true h = omega arith
-        role false h = omega arith
 
 -- ---- rights are five
 
-named_low : (rights : Bool) (ps : List (List ℕ)) (x : ℕ) → all_named? rights ps ≡ true → named? rights ps x ≡ true → x ≤ most rights
-unfolding all_named? named?
-named_low rights [] x a e = absurd (false≢true e)
-named_low rights (p ∷ ps) x a e = ⊎_elim
-    (λ (m : eqb x (name_of rights p) ≡ true). rw (eqb-true x (name_of rights p) m) (leb-true (name_of rights p) (most rights) (and_left (leb (name_of rights p) (most rights)) (all_named? rights ps) a)))
-    (λ (m : named? rights ps x ≡ true). named_low rights ps x (and_right (leb (name_of rights p) (most rights)) (all_named? rights ps) a) m)
-    (or_cases (eqb x (name_of rights p)) (named? rights ps x) e)
+is_low : (r : Option ℕ) (n x : ℕ) → IfSome r (λ k. k < n) → is? x r ≡ true → x < n
+is_low None n x h e = absurd (false≢true e)
+is_low (Some k) n x h e = rw (eqb-true x k e) h
+
+right_low : (w : List ℕ) → IfSome (right_of w) (λ k. k < 5)
+unfolding pieces longer separates
+right_low w = place_low w (pieces 44 (bytes "add-role,remove-role,add-edge,remove-edge,change-edge"))
+
+named_low : (ps : List (List ℕ)) (x : ℕ) → named? right_of ps x ≡ true → x < 5
+unfolding named?
+named_low [] x e = absurd (false≢true e)
+named_low (p ∷ ps) x e = ⊎_elim
+    (λ (m : is? x (right_of p) ≡ true). is_low (right_of p) 5 x (right_low p) m)
+    (λ (m : named? right_of ps x ≡ true). named_low ps x m)
+    (or_cases (is? x (right_of p)) (named? right_of ps x) e)
 
 -- a set whose members are all below k
 low_set : (k : ℕ) (f : ℕ → Bool) → k ≤ 64 → ((x : ℕ) → f x ≡ true → x < k) → set_of f < 2 ^ k
@@ -75,29 +96,28 @@ low_set k f h low = rw (ext 64 (set_of f) (digits k f) (set_of_fits f) (le_trans
         (λ (g : k ≤ x). not_so (f x) (λ e. absurd (omega (arith, low x e))) ∙ sym (bit_out k (digits k f) x (digits_fit k f) g))
         (lt_or_ge x k)
 
-pub rights_few : (w : List ℕ) → (rights_of w).set ≤ 31
+pub rights_few : (w : List ℕ) → IfSome (rights_of w) (λ s. s ≤ 31)
 unfolding rights_of members_of
 rights_few w = cond_elim Few (alike? w (bytes "all")) _ _
     (λ _. lit≤ tt)
-    (λ _. cond_elim Few (all_named? true (pieces 44 w)) _ _
-    (λ a. let h = low_set 5 (named? true (pieces 44 w)) (lit≤ tt) (λ x e. suc-le-suc (named_low true (pieces 44 w) x a e)) in omega arith)
-    (λ _. zero-le))
+    (λ _. cond_elim Few (all_named? right_of (pieces 44 w)) _ _
+    (λ _. let h = low_set 5 (named? right_of (pieces 44 w)) (lit≤ tt) (λ x e. named_low (pieces 44 w) x e) in omega arith)
+    (λ _. tt))
   where
-    Few : Listed → Type 0
-    Few m = m.set ≤ 31
+    Few : Option ℕ → Type 0
+    Few m = IfSome m (λ s. s ≤ 31)
 
 -- ---- a list names somebody: so a set of a new role that was named has a role in it
 
-somebody : (p : List ℕ) (ps : List (List ℕ)) → all_named? false (p ∷ ps) ≡ true → set_of (named? false (p ∷ ps)) ≡ 0 → ⊥
-unfolding all_named? named?
-somebody p ps a e =
-    let low : role_of p ≤ 63 = leb-true (role_of p) 63 (and_left (leb (role_of p) 63) (all_named? false ps) a) in
-    let here : named? false (p ∷ ps) (role_of p) ≡ true = or_left (eqb (role_of p) (role_of p)) (named? false ps (role_of p)) (eq-eqb (role_of p) (role_of p) refl) in
-    false_no (bit_zero (role_of p)) (sym (ap (λ (s : ℕ). bit s (role_of p)) e) ∙ bit_set_of (named? false (p ∷ ps)) (role_of p) (omega arith) ∙ here)
+somebody : (r : Option ℕ) (f : ℕ → Bool) → IfSome r (λ x. x ≤ 63) → one? r ≡ true → set_of (λ x. is? x r || f x) ≡ 0 → ⊥
+somebody None f h a e = absurd (false≢true a)
+somebody (Some y) f h a e =
+    false_no (bit_zero y)
+    (sym (ap (λ (s : ℕ). bit s y) e) ∙ bit_set_of (λ x. eqb x y || f x) y (omega arith) ∙ or_left (eqb y y) (f y) (eq-eqb y y refl))
 
-pub set_some : (w : List ℕ) → (members_of false w).fine ≡ true → (members_of false w).set ≡ 0 → ⊥
-unfolding members_of rest_of
-set_some w = cond_elim (λ (m : Listed). m.fine ≡ true → m.set ≡ 0 → ⊥) (all_named? false (pieces 44 w)) _ _
-    (λ a _ e. let t = turn 44 w 0 (end_of 44 w 0) zero-le refl in
-    somebody _ _ (rw t.cut at a) (rw t.cut at e))
-    (λ _ f _. absurd (false≢true f))
+pub set_some : (w : List ℕ) → IfSome (members_of role_of w) (λ s. s ≡ 0 → ⊥)
+unfolding members_of rest_of all_named? named?
+set_some w = cond_elim (λ (m : Option ℕ). IfSome m (λ s. s ≡ 0 → ⊥)) (all_named? role_of (pieces 44 w)) _ _
+    (λ a e. let t = turn 44 w 0 (end_of 44 w 0) zero-le refl in
+    somebody _ _ (role_low _) (and_left _ _ (rw t.cut at a)) (rw t.cut at e))
+    (λ _. tt)

@@ -1,30 +1,38 @@
 -- What a word names: a role by its decimal number, a command, a kind or a set's name by its place among the names of such, and several by commas.
-use Rattle.std.specs.Prelude.{Bool, true, false, cond, ◌&&◌, ◌||◌, List, [], ◌∷◌, ℕ, suc, ◌+◌, ◌*◌, ◌-◌, eqb, leb}
+use Rattle.std.specs.Prelude.{◌≡◌, Bool, true, false, cond, ◌&&◌, ◌||◌, List, [], ◌∷◌, Option, Some, None, option_map, ℕ, zero, suc, ◌+◌, ◌*◌, ◌-◌, eqb, leb}
+use Rattle.std.specs.Borrow.{Bor}
 use Rattle.sets.specs.Sets.{set_of}
 use Rattle.wording.specs.Texts.{bytes, alike?, pieces}
-use Rattle.wording.specs.declared.names.Listed.{Listed}
+use Rattle.wording.specs.declared.names.SetName.{SetName}
+use Rattle.wording.specs.declared.names.SetName.TheVariants.{ASeniors, ISeniors, AJuniors, IJuniors}
 
 -- ---- one name among several, which stand in a row with commas between
 
--- the place of the first that is this text; their number where none is
-unfoldable pub place_in : List ℕ → List (List ℕ) → ℕ
-place_in w [] = 0
-place_in w (p ∷ ps) = cond (alike? w p) 0 (suc (place_in w ps))
+-- the place of the first that is this text, if one is
+unfoldable pub place_in : List ℕ → List (List ℕ) → Option ℕ
+place_in w [] = None
+place_in w (p ∷ ps) = cond (alike? w p) (Some 0) (option_map suc (place_in w ps))
 
--- commands 1 to 7; past 7, none of them
-abbrev pub code_of : List ℕ → ℕ
-code_of w = place_in w (pieces 44 (bytes "add-role,remove-role,add-edge,remove-edge,change-edge,give-rights,take-rights")) + 1
+-- commands 1 to 7
+abbrev pub code_of : List ℕ → Option ℕ
+code_of w = option_map (λ k. k + 1) (place_in w (pieces 44 (bytes "add-role,remove-role,add-edge,remove-edge,change-edge,give-rights,take-rights")))
 
--- kinds 1 to 3; past 3, none
-abbrev pub kind_of : List ℕ → ℕ
-kind_of w = place_in w (pieces 44 (bytes "I,A,IA")) + 1
+-- kinds 1 to 3
+abbrev pub kind_of : List ℕ → Option ℕ
+kind_of w = option_map (λ k. k + 1) (place_in w (pieces 44 (bytes "I,A,IA")))
 
--- the four sets of a new role, 0 to 3; past 3, none
-abbrev pub option_of : List ℕ → ℕ
-option_of w = place_in w (pieces 44 (bytes "a-seniors,i-seniors,a-juniors,i-juniors"))
+-- the four sets of a new role
+abbrev pub set_name_at : ℕ → SetName
+set_name_at zero = ASeniors
+set_name_at (suc zero) = ISeniors
+set_name_at (suc (suc zero)) = AJuniors
+set_name_at (suc (suc (suc k))) = IJuniors
 
--- the rights, each named by its command, 0 to 4 for the rights to commands 1 to 5; past 4, none
-abbrev pub right_of : List ℕ → ℕ
+abbrev pub set_name_of : List ℕ → Option SetName
+set_name_of w = option_map set_name_at (place_in w (pieces 44 (bytes "a-seniors,i-seniors,a-juniors,i-juniors")))
+
+-- the rights, each named by its command, 0 to 4 for the rights to commands 1 to 5
+abbrev pub right_of : List ℕ → Option ℕ
 right_of w = place_in w (pieces 44 (bytes "add-role,remove-role,add-edge,remove-edge,change-edge"))
 
 -- ---- a decimal number
@@ -45,39 +53,39 @@ abbrev pub some? : List ℕ → Bool
 some? [] = false
 some? (b ∷ rest) = true
 
--- the role that a decimal number names, however many digits it has; 64 where it is above 63 or no number
-unfoldable pub role_of : List ℕ → ℕ
-role_of w = cond (some? w && digits? w && leb (value_from 0 w) 63) (value_from 0 w) 64
+-- the role that a decimal number names, however many digits it has; none where it is above 63 or no number
+unfoldable pub role_of : List ℕ → Option ℕ
+role_of w = cond (some? w && digits? w && leb (value_from 0 w) 63) (Some (value_from 0 w)) None
 
--- ---- several, with commas between
+-- ---- several, with commas between: what `name` makes of each piece
 
--- what a piece names, a right or a role, and the highest number that is one
-abbrev pub name_of : Bool → List ℕ → ℕ
-name_of true = right_of
-name_of false = role_of
+-- it names something, and that is x
+abbrev pub one? : Option ℕ → Bool
+one? None = false
+one? (Some x) = true
 
-abbrev pub most : Bool → ℕ
-most true = 4
-most false = 63
+abbrev pub is? : ℕ → Option ℕ → Bool
+is? x None = false
+is? x (Some y) = eqb x y
 
 -- each piece names one
-unfoldable pub all_named? : Bool → List (List ℕ) → Bool
-all_named? rights [] = true
-all_named? rights (p ∷ ps) = leb (name_of rights p) (most rights) && all_named? rights ps
+unfoldable pub all_named? : (List ℕ → Option ℕ) → List (List ℕ) → Bool
+all_named? name [] = true
+all_named? name (p ∷ ps) = one? (name p) && all_named? name ps
 
 -- some piece names x
-unfoldable pub named? : Bool → List (List ℕ) → ℕ → Bool
-named? rights [] x = false
-named? rights (p ∷ ps) x = eqb x (name_of rights p) || named? rights ps x
+unfoldable pub named? : (List ℕ → Option ℕ) → List (List ℕ) → ℕ → Bool
+named? name [] x = false
+named? name (p ∷ ps) x = is? x (name p) || named? name ps x
 
--- the set of all that are named, or that this text is no such list
-abbrev pub no_members : Listed
-no_members = record { fine = false; set = 0 }
-
-unfoldable pub members_of : Bool → List ℕ → Listed
-members_of rights w =
-    cond (all_named? rights (pieces 44 w)) (record { fine = true; set = set_of (named? rights (pieces 44 w)) }) no_members
+-- the set of all that are named, if this text is such a list
+unfoldable pub members_of : (List ℕ → Option ℕ) → List ℕ → Option ℕ
+members_of name w = cond (all_named? name (pieces 44 w)) (Some (set_of (named? name (pieces 44 w)))) None
 
 -- rights by name, or all five
-unfoldable pub rights_of : List ℕ → Listed
-rights_of w = cond (alike? w (bytes "all")) (record { fine = true; set = 31 }) (members_of true w)
+unfoldable pub rights_of : List ℕ → Option ℕ
+rights_of w = cond (alike? w (bytes "all")) (Some 31) (members_of right_of w)
+
+-- what a reader of names gives is what `name` makes of the text
+abbrev pub Reads : (Bor (List ℕ) → Option ℕ → Type 0) → (List ℕ → Option ℕ) → Type 0
+Reads gives name = (w : Bor (List ℕ)) (r : Option ℕ) → gives w r → r ≡ name w.now

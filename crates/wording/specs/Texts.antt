@@ -1,5 +1,7 @@
 -- Text as people type it: bytes, the pieces between separators, and the words of a line.
-use Rattle.std.specs.Prelude.{◌≡◌, Bool, true, false, cond, ◌&&◌, ◌||◌, List, [], ◌∷◌, ℕ, zero, suc, ◌+◌, eqb, length, get_or}
+use Rattle.std.specs.Prelude.{◌≡◌, Bool, true, false, cond, ◌&&◌, ◌||◌, List, [], ◌∷◌, Option, Some, None, ℕ, zero, suc, ◌+◌, ◌≤◌, ◌<◌, eqb, length, get_or}
+use Rattle.std.specs.Borrow.{Bor}
+use Rattle.wording.specs.declared.pieces.Pieces.{Pieces}
 use Prim.Native.Char.{code}
 use Prim.Native.String.{String, len, char_at}
 
@@ -36,6 +38,26 @@ longer b (p ∷ ps) = (b ∷ p) ∷ ps
 unfoldable pub pieces : ℕ → List ℕ → List (List ℕ)
 pieces sep [] = [] ∷ []
 pieces sep (b ∷ rest) = cond (separates sep b) ([] ∷ pieces sep rest) (longer b (pieces sep rest))
+
+-- the pieces that begin at `from` or behind it, where a piece begins there; past the end there are none
+unfoldable pub rest_of : ℕ → List ℕ → ℕ → List (List ℕ)
+rest_of sep text zero = pieces sep text
+rest_of sep [] (suc from) = []
+rest_of sep (b ∷ rest) (suc from) = rest_of sep rest from
+
+-- One turn of a loop over pieces: of those from s on the first is given, as a part of the text, and t goes on behind it; or none is left.
+pub record Given (s : Pieces) (part : Bor (List ℕ)) (t : Pieces) : Type 0 where
+  pub same_text : t.text ≡ s.text
+  pub same_sep : t.sep ≡ s.sep
+  pub within : t.from ≤ length s.text.now + 1
+  pub first : rest_of s.sep s.text.now s.from ≡ part.now ∷ rest_of s.sep s.text.now t.from
+  pub behind : t.from ≡ s.from + length part.now + 1
+  pub block : part.ref_ptr.0 ≡ s.text.ref_ptr.0
+  pub begins : part.ref_ptr.1 ≡ s.text.ref_ptr.1 + s.from
+
+abbrev pub Cut : Pieces → Option (Bor (List ℕ)) → Pieces → Type 0
+Cut s (Some part) t = Given s part t
+Cut s None t = length s.text.now < s.from
 
 -- the pieces that have a byte
 unfoldable pub filled : List (List ℕ) → List (List ℕ)

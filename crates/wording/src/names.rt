@@ -1,155 +1,135 @@
-// What a word names. Where names are counted, a number past the last stands for none.
-ghost use Rattle.std.specs.Prelude.{◌≡◌, ◌+◌, ◌≤◌, length};
+// What a word names.
+ghost use Rattle.std.specs.Prelude.{◌≡◌, ◌≤◌, ◌<◌, List, ℕ, Option, IfSome, length};
 ghost use Rattle.wording.specs.Texts.{pieces};
-ghost use Rattle.wording.specs.Names.{place_in, code_of, kind_of, option_of, right_of, role_of, name_of, most, members_of, rights_of};
+ghost use Rattle.wording.specs.Names.{place_in, code_of, kind_of, set_name_of, right_of, role_of, members_of, rights_of, Reads};
 ghost use Rattle.wording.specs.Steps.{grown};
 
-use crate::pieces::{COMMA, piece_end};
+use crate::pieces::{COMMA, pieces_of};
 use sets::with;
 
-// The place of a text among names that stand in a row with commas between; their number where it is none of them.
-fn place_in(text: &[u8], names: &[u8]) -> usize
+// The place of a text among names that stand in a row with commas between.
+fn place_in(text: &[u8], names: &[u8]) -> Option<usize>
     ensures value { result ≡ place_in text.now (pieces 44 names.now) }
-    ensures upper_bound { result ≤ length names.now + 1 }
+    ensures bound { IfSome result (λ k. k ≤ length names.now) }
 {
-    let n = names.len();
-    let mut k: usize = 0;
-    let mut from: usize = 0;
-    while from <= n {
-        let end = piece_end(names, from, COMMA);
-        if check::same(text, &names[from..end]) {
-            return k;
+    for (k, name) in pieces_of(names, COMMA).enumerate() {
+        if text == name {
+            return Some(k);
         }
-        k += 1;
-        from = end + 1;
     }
-    k
+    None
 }
 
-// Commands 1 to 7, kinds 1 to 3, the sets of a new role 0 to 3, and rights 0 to 4, by their names.
-pub(crate) fn code(text: &[u8]) -> usize
+// A command, 1 to 7, by its name.
+pub(crate) fn code(text: &[u8]) -> Option<u32>
     ensures { result ≡ code_of text.now }
 {
-    place_in(
+    let place = place_in(
         text,
         b"add-role,remove-role,add-edge,remove-edge,change-edge,give-rights,take-rights",
-    ) + 1
+    )?;
+    Some(place as u32 + 1)
 }
 
-pub(crate) fn kind(text: &[u8]) -> usize
+// A kind, 1 to 3.
+pub(crate) fn kind(text: &[u8]) -> Option<u32>
     ensures { result ≡ kind_of text.now }
 {
-    place_in(text, b"I,A,IA") + 1
+    let place = place_in(text, b"I,A,IA")?;
+    Some(place as u32 + 1)
 }
 
-pub(crate) fn set_name(text: &[u8]) -> usize
-    ensures { result ≡ option_of text.now }
+// The four sets of a new role.
+#[derive(Clone, Copy, PartialEq, Eq)]
+pub(crate) enum SetName {
+    ASeniors,
+    ISeniors,
+    AJuniors,
+    IJuniors,
+}
+
+pub(crate) fn set_name(text: &[u8]) -> Option<SetName>
+    ensures { result ≡ set_name_of text.now }
 {
-    place_in(text, b"a-seniors,i-seniors,a-juniors,i-juniors")
+    let place = place_in(text, b"a-seniors,i-seniors,a-juniors,i-juniors")?;
+    Some(match place {
+        0 => SetName::ASeniors,
+        1 => SetName::ISeniors,
+        2 => SetName::AJuniors,
+        _ => SetName::IJuniors,
+    })
 }
 
-fn right(text: &[u8]) -> usize
+// A right, 0 to 4, by the name of its command.
+fn right(text: &[u8]) -> Option<u32>
     ensures { result ≡ right_of text.now }
 {
-    place_in(
+    let place = place_in(
         text,
         b"add-role,remove-role,add-edge,remove-edge,change-edge",
-    )
+    )?;
+    Some(place as u32)
 }
 
-// A number so far and one byte more: 64 from where it is no role any more.
-fn grown(number: usize, b: u8) -> usize
+// A number so far and one byte more, while that is a role.
+#[tactic(auto, unfolding(crate::specs::Steps::grown))]
+fn grown(number: u32, b: u8) -> Option<u32>
     ensures { result ≡ grown number b }
 {
-    if b < b'0' {
-        return 64;
-    }
-    if b > b'9' {
-        return 64;
+    if !b.is_ascii_digit() {
+        return None;
     }
     if number > 6 {
-        return 64;
+        return None;
     }
-    let next = number * 10 + (b - b'0') as usize;
+    let next = number * 10 + u32::from(b - b'0');
     if next > 63 {
-        return 64;
+        return None;
     }
-    next
+    Some(next)
 }
 
-// The role of a decimal number, 64 where it is none.
-pub(crate) fn role(text: &[u8]) -> usize
+// The role of a decimal number.
+pub(crate) fn role(text: &[u8]) -> Option<u32>
     ensures { result ≡ role_of text.now }
 {
-    let n = text.len();
-    if n == 0 {
-        return 64;
+    if text.is_empty() {
+        return None;
     }
-    let mut number: usize = 0;
-    let mut k: usize = 0;
-    while k < n {
-        number = grown(number, text[k]);
-        k += 1;
+    let mut number = 0;
+    for b in text {
+        number = grown(number, *b)?;
     }
-    number
+    Some(number)
 }
 
-fn name(text: &[u8], rights: bool) -> usize
-    ensures { result ≡ name_of rights text.now }
+// The set of what the pieces of a text name, with commas between.
+pub(crate) fn members<F: Fn(&[u8]) -> Option<u32>>(text: &[u8], name: F) -> Option<u64>
+    ghost name_of: { List ℕ → Option ℕ }
+    requires callable { F.IsAlwaysCallable name }
+    requires reads { Reads (F.post name) name_of }
+    ensures { result ≡ members_of name_of text.now }
 {
-    if rights {
-        return right(text);
-    }
-    role(text)
-}
-
-fn most(rights: bool) -> usize
-    ensures { result ≡ most rights }
-{
-    if rights {
-        return 4;
-    }
-    63
-}
-
-// The set that a list names, or that it is no such list.
-#[derive(Clone, Copy)]
-pub(crate) struct Listed {
-    pub(crate) fine: bool,
-    pub(crate) set: u64,
-}
-
-// The roles, or the rights, that a text names with commas between.
-pub(crate) fn members(text: &[u8], rights: bool) -> Listed
-    ensures { result ≡ members_of rights text.now }
-{
-    let n = text.len();
     let mut set: u64 = 0;
-    let mut from: usize = 0;
-    while from <= n {
-        let end = piece_end(text, from, COMMA);
-        let x = name(&text[from..end], rights);
-        if most(rights) < x {
-            return Listed {
-                fine: false,
-                set: 0,
-            };
-        }
-        set = with(set, x);
-        from = end + 1;
+    for piece in pieces_of(text, COMMA) {
+        set = with(set, name(piece)? as usize);
     }
-    Listed { fine: true, set }
+    Some(set)
+}
+
+// Roles, with commas between.
+pub(crate) fn roles(text: &[u8]) -> Option<u64>
+    ensures { result ≡ members_of role_of text.now }
+{
+    members(text, role)
 }
 
 // Rights by their names, or all of them.
-pub(crate) fn rights(text: &[u8]) -> Listed
+pub(crate) fn rights(text: &[u8]) -> Option<u64>
     ensures { result ≡ rights_of text.now }
 {
-    if check::same(text, b"all") {
-        return Listed {
-            fine: true,
-            set: 31,
-        };
+    if text == b"all".as_slice() {
+        return Some(31);
     }
-    members(text, true)
+    members(text, right)
 }

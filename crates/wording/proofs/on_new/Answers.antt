@@ -1,44 +1,42 @@
-use mathlib.Core.Bool.{false}
-use mathlib.Core.Path.{refl, sym, ap, ◌∙◌}
-use native.Mathlib.Omega.{arith}
-use borrow.Author.Tests.{not-true, not-false}
-use Rattle.wording.specs.Names.{members_of}
-use Rattle.wording.specs.declared.Meaning.TheVariants.{Means}
-use Rattle.wording.proofs.NewRole.{name_over, name_none, name_high, name_twice, name_bad, name_next}
+use Rattle.std.proofs.Common.{sym, ◌∙◌, ap, arith}
+use Rattle.std.proofs.lemmas.Bool.{eqb-false, eqb-true}
+use Rattle.std.proofs.lemmas.Result.{err_from_is_err_and}
+use Rattle.wording.specs.Names.{role_of, members_of}
+use Rattle.wording.proofs.NewRole.{name_start, name_over, name_none, name_unknown, name_twice, name_bad, name_next, some_of, none_of}
 use Rattle.wording.proofs.on_new.Goals as goal
 
-pub loop-k-init : goal.loop-k-init
-loop-k-init c = record { n = 4; twice = refl; same = rw c.no_sets-sets.ensures }
+pub loop-n-init : goal.loop-n-init
+loop-n-init c = name_start _ _
 
-pub returns-then-name-eq0 : goal.returns-then-name-eq0
-returns-then-name-eq0 c = ap Means c.added.ensures ∙ name_none c.loop-k.invariant c.loop-k-test.true c.word-name.ensures.0 c.if-name-eq0.true
+pub returns-then-is_empty : goal.returns-then-is_empty
+returns-then-is_empty c = name_none c.loop-n.invariant c.loop-n-test.true c.word-name.ensures.0 (eqb-true _ _ (sym c.is_empty.ensures ∙ c.if-is_empty.true))
 
-pub returns-then-o-gt3 : goal.returns-then-o-gt3
-returns-then-o-gt3 c = name_high c.loop-k.invariant c.loop-k-test.true c.word-name.ensures.0 c.if-name-eq0.false c.set_name-o.ensures c.if-o-gt3.true
+pub returns-in_err-set : goal.returns-in_err-set
+returns-in_err-set c =
+    let e = err_from_is_err_and c.from_residual.result c.from_residual.ensures.1 in
+    let none = none_of _ _ c.in_err-set.ensures.value in
+    rw (e.1, e.2, none.1, c.at.ensures)
+    (name_unknown c.loop-n.invariant c.loop-n-test.true c.word-name.ensures.0 (eqb-false _ _ (sym c.is_empty.ensures ∙ c.if-is_empty.false)) (none.0 ∙ c.set_name.ensures))
 
 pub returns-then-set_at-ne0 : goal.returns-then-set_at-ne0
-returns-then-set_at-ne0 c = name_twice c.loop-k.invariant c.loop-k-test.true c.word-name.ensures.0 c.if-name-eq0.false c.set_name-o.ensures (λ z. c.if-set_at-ne0.true (c.set_at.ensures ∙ z))
+returns-then-set_at-ne0 c = rw c.at-then-set_at-ne0.ensures
+    (name_twice c.loop-n.invariant c.loop-n-test.true c.word-name.ensures.0 (eqb-false _ _ (sym c.is_empty.ensures ∙ c.if-is_empty.false))
+    (some_of _ _ c.in_ok-set.ensures.value ∙ c.set_name.ensures) (λ z. c.if-set_at-ne0.true (c.set_at.ensures ∙ z)))
 
-pub overflow_add-k : goal.overflow_add-k
-overflow_add-k c = omega arith
+pub returns-in_err-named : goal.returns-in_err-named
+returns-in_err-named c =
+    let e = err_from_is_err_and c.from_residual-in_err-named.result c.from_residual-in_err-named.ensures.1 in
+    let none = none_of _ _ c.in_err-named.ensures.value in
+    rw (e.1, e.2, none.1, c.at-in-loop-n.ensures)
+    (name_bad c.loop-n.invariant c.loop-n-test.true c.word-name.ensures.0 (eqb-false _ _ (sym c.is_empty.ensures ∙ c.if-is_empty.false))
+    (some_of _ _ c.in_ok-set.ensures.value ∙ c.set_name.ensures) (sym c.set_at.ensures ∙ c.if-set_at-ne0.false)
+    (none.0 ∙ c.roles.ensures ∙ ap (members_of role_of) c.word.ensures.0))
 
-pub overflow_add-result : goal.overflow_add-result
-overflow_add-result c = omega arith
-
-pub returns-then-not-roles : goal.returns-then-not-roles
-returns-then-not-roles c = name_bad c.loop-k.invariant c.loop-k-test.true c.word-name.ensures.0 c.if-name-eq0.false c.set_name-o.ensures
-    c.if-o-gt3.false (sym c.set_at.ensures ∙ c.if-set_at-ne0.false) (c.members-roles.ensures ∙ ap (members_of false) c.word.ensures.0) (not-true c.members-roles.result.fine c.if-not-roles.true)
-
-pub overflow_add-k-in-loop-k : goal.overflow_add-k-in-loop-k
-overflow_add-k-in-loop-k c = omega arith
-
-pub loop-k-smaller : goal.loop-k-smaller
-loop-k-smaller c = omega arith
-
-pub loop-k-preserved : goal.loop-k-preserved
-loop-k-preserved c = rw c.with_set-sets.ensures
-    (name_next c.loop-k.invariant c.loop-k-test.true c.word-name.ensures.0 c.if-name-eq0.false c.set_name-o.ensures
-    c.if-o-gt3.false (sym c.set_at.ensures ∙ c.if-set_at-ne0.false) (c.members-roles.ensures ∙ ap (members_of false) c.word.ensures.0) (not-false c.members-roles.result.fine c.if-not-roles.false))
+pub loop-n-preserved : goal.loop-n-preserved
+loop-n-preserved c = rw c.with_set-c.ensures
+    (name_next c.loop-n.invariant c.loop-n-test.true c.word-name.ensures.0 (eqb-false _ _ (sym c.is_empty.ensures ∙ c.if-is_empty.false))
+    (some_of _ _ c.in_ok-set.ensures.value ∙ c.set_name.ensures) (sym c.set_at.ensures ∙ c.if-set_at-ne0.false)
+    (some_of _ _ c.in_ok-named.ensures.value ∙ c.roles.ensures ∙ ap (members_of role_of) c.word.ensures.0))
 
 pub returns : goal.returns
-returns c = c.ended.ensures ∙ rw c.added-2.ensures (name_over c.loop-k.invariant c.loop-k-test.false)
+returns c = c.ended.ensures ∙ name_over c.loop-n.invariant c.loop-n-test.false (omega arith)

@@ -1,22 +1,8 @@
-use mathlib.Core.Path.{ap, ◌∙◌}
-use native.Mathlib.Omega.{arith}
-use borrow.Author.Tests.{not-true, not-false}
-use Rattle.wording.specs.Names.{rights_of}
-use Rattle.wording.specs.Meanings.{rights_from}
-use Rattle.wording.specs.declared.names.Listed.{Listed}
+use Rattle.std.proofs.Common.{sym, ◌∙◌, arith}
 use Rattle.wording.proofs.Lists.{rights_few}
+use Rattle.wording.proofs.NewRole.{some_of}
 use Rattle.wording.proofs.on_rights.Goals as goal
 
-pub returns-then-not-named : goal.returns-then-not-named
-unfolding rights_from
-returns-then-not-named c = let r = c.rights-named in
-    rw (← (r.ensures ∙ ap rights_of c.word.ensures.0), not-true r.result.fine c.if-not-named.true)
-
-pub overflow_cast-set : goal.overflow_cast-set
-overflow_cast-set c = let e = ap (λ (r : Listed). r.set) c.rights-named.ensures in omega (arith, rights_few c.word.result.now)
-
-pub returns : goal.returns
-unfolding rights_from
-returns c = let r = c.rights-named in
-    c.ended.ensures
-    ∙ rw (c.plain.ensures, ← (r.ensures ∙ ap rights_of c.word.ensures.0), not-false r.result.fine c.if-not-named.false)
+pub overflow_cast-rights : goal.overflow_cast-rights
+overflow_cast-rights c =
+    let few = rw (sym (some_of _ _ c.in_ok-rights.ensures.value ∙ c.rights.ensures)) at (rights_few c.word.result.now) in omega (arith, few)

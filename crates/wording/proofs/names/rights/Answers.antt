@@ -1,13 +1,13 @@
-use mathlib.Core.Path.{sym, ◌∙◌}
-use Rattle.sets.proofs.Bools.{test_unique}
+use Rattle.std.proofs.Common.{sym, ◌∙◌}
 use Rattle.wording.specs.Names.{rights_of}
 use Rattle.wording.proofs.Placing.{alike_is}
 use Rattle.wording.proofs.names.rights.Goals as goal
 
-pub returns-then-same : goal.returns-then-same
+pub returns-then-eq : goal.returns-then-eq
 unfolding rights_of
-returns-then-same c = rw (sym (test_unique c.same.ensures (alike_is _ _)) ∙ c.if-same.true)
+returns-then-eq c = let is = rw c.as_slice.ensures at (sym (alike_is c.args.text.now c.as_slice.result.now) ∙ sym c.eq.ensures ∙ c.if-eq.true) in rw is
 
 pub returns : goal.returns
 unfolding rights_of
-returns c = c.members.ensures ∙ rw (sym (test_unique c.same.ensures (alike_is _ _)) ∙ c.if-same.false)
+returns c = let is = rw c.as_slice.ensures at (sym (alike_is c.args.text.now c.as_slice.result.now) ∙ sym c.eq.ensures ∙ c.if-eq.false) in
+    rw is c.members.ensures

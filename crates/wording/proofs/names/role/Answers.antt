@@ -1,24 +1,16 @@
-use native.Mathlib.Omega.{arith}
-use Rattle.wording.proofs.Numbers.{read_start, read_turn, read_end, role_none}
+use Rattle.std.proofs.Common.{sym, ◌∙◌}
+use Rattle.std.proofs.lemmas.Bool.{eqb-false, eqb-true}
+use Rattle.wording.proofs.Numbers.{read_turn, read_stop, read_end, role_none}
 use Rattle.wording.proofs.names.role.Goals as goal
 
-pub returns-then-n-eq0 : goal.returns-then-n-eq0
-returns-then-n-eq0 c = role_none _ c.if-n-eq0.true
+pub returns-then-is_empty : goal.returns-then-is_empty
+returns-then-is_empty c = role_none _ (eqb-true _ _ (sym c.is_empty.ensures ∙ c.if-is_empty.true))
 
-pub loop-k-init : goal.loop-k-init
-loop-k-init c = read_start _
+pub returns-in_err-number : goal.returns-in_err-number
+returns-in_err-number c = rw c.from_residual.ensures (read_stop c.loop-b.invariant c.loop-b-test.true (sym c.in_err-number.was ∙ c.grown.ensures))
 
-pub bounds-text-k : goal.bounds-text-k
-bounds-text-k c = omega arith
-
-pub overflow_add-k : goal.overflow_add-k
-overflow_add-k c = omega arith
-
-pub loop-k-smaller : goal.loop-k-smaller
-loop-k-smaller c = omega arith
-
-pub loop-k-preserved : goal.loop-k-preserved
-loop-k-preserved c = read_turn c.loop-k.invariant c.loop-k-test.true c.grown-number.ensures
+pub loop-b-preserved : goal.loop-b-preserved
+loop-b-preserved c = read_turn c.loop-b.invariant c.loop-b-test.true (sym c.in_ok-number.was ∙ c.grown.ensures)
 
 pub returns : goal.returns
-returns c = read_end c.loop-k.invariant c.loop-k-test.false c.if-n-eq0.false
+returns c = read_end c.loop-b.invariant c.loop-b-test.false (eqb-false _ _ (sym c.is_empty.ensures ∙ c.if-is_empty.false))

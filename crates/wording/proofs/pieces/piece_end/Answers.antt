@@ -1,27 +1,9 @@
-use mathlib.Core.Path.{refl, sym, ◌∙◌}
-use native.Mathlib.Omega.{arith}
-use Rattle.wording.proofs.Cutting.{end_over, end_turn}
+use Rattle.std.proofs.Common.{sym, arith}
+use Rattle.wording.proofs.Cutting.{piece_to, end_over, to_the_end}
 use Rattle.wording.proofs.pieces.piece_end.Goals as goal
 
-pub loop-at-init : goal.loop-at-init
-loop-at-init c = refl
+pub returns-in-Some : goal.returns-in-Some
+returns-in-Some c = rw (c.unwrap_or.ensures, c.first_separator.ensures, sym (piece_to c.args.sep c.in-Some.rest.now), c.in-Some.ensures.lookup.0.2, to_the_end c.args.from c.args.text.now)
 
-pub bounds-text-at : goal.bounds-text-at
-bounds-text-at c = omega arith
-
-pub returns-then-separates : goal.returns-then-separates
-returns-then-separates c =
-    sym (c.loop-at.invariant ∙ end_turn _ _ _ c.loop-at-test.true ∙ rw (sym c.separates.ensures ∙ c.if-separates.true))
-
-pub overflow_add-at : goal.overflow_add-at
-overflow_add-at c = omega arith
-
-pub loop-at-smaller : goal.loop-at-smaller
-loop-at-smaller c = omega arith
-
-pub loop-at-preserved : goal.loop-at-preserved
-loop-at-preserved c =
-    c.loop-at.invariant ∙ end_turn _ _ _ c.loop-at-test.true ∙ rw (sym c.separates.ensures ∙ c.if-separates.false)
-
-pub returns : goal.returns
-returns c = sym (c.loop-at.invariant ∙ end_over _ _ _ c.loop-at-test.false)
+pub returns-in-None : goal.returns-in-None
+returns-in-None c = sym (end_over _ _ _ (omega (arith, c.in-None.ensures.lookup.0)))

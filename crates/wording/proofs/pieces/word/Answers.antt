@@ -1,50 +1,25 @@
-use mathlib.Core.Path.{refl}
-use native.Mathlib.Omega.{arith}
-use Rattle.wording.proofs.Cutting.{Turn, turn, look_start, look_over, look_none, look_here, look_past}
-use Rattle.wording.proofs.pieces.word.Goals.{then-from-end+else-left-eq0, else-from-end}
+use Rattle.std.proofs.Common.{sym, ap, ◌∙◌, arith}
+use Rattle.std.proofs.lemmas.Bool.{eqb-false, eqb-true}
+use Rattle.wording.specs.declared.pieces.Pieces.{Pieces}
+use Rattle.wording.proofs.Cutting.{look_start, look_over, look_none, look_here, look_past}
 use Rattle.wording.proofs.pieces.word.Goals as goal
 
-pub loop-from-init : goal.loop-from-init
-loop-from-init c = look_start _ _
-
-pub slice_bounds-result-end : goal.slice_bounds-result-end
-slice_bounds-result-end c =
-    let cut : Turn 32 c.args.line.now c.loop-from.from c.piece_end-end.result =
-    turn _ _ _ _ c.loop-from-test.true c.piece_end-end.ensures in
-    cut.high
+pub loop-piece-init : goal.loop-piece-init
+loop-piece-init c = rw c.into_iter-piece-iterator.ensures.into_iter_gives (look_start _ _ c.pieces_of-piece-items.ensures.from c.pieces_of-piece-items.ensures.sep)
 
 pub returns-then-left-eq0 : goal.returns-then-left-eq0
 returns-then-left-eq0 c =
-    let cut : Turn 32 c.args.line.now c.loop-from.from c.piece_end-end.result =
-    turn _ _ _ _ c.loop-from-test.true c.piece_end-end.ensures in
-    let here = look_here c.loop-from.invariant cut c.if-from-end.true c.if-left-eq0.true in
-    (here.0, refl, omega (arith, here.1))
+    rw (ap (λ (p : Pieces). p.text) c.into_iter-piece-iterator.ensures.into_iter_gives ∙ c.pieces_of-piece-items.ensures.text) at
+    (look_here c.loop-piece.invariant c.in-Some.ensures.steps (eqb-false _ _ (sym c.is_empty.ensures ∙ c.if-not-is_empty.true)) c.if-left-eq0.true)
 
-pub overflow_sub-left : goal.overflow_sub-left
-overflow_sub-left c = omega arith
+pub loop-piece-preserved-then-not-is_empty : goal.loop-piece-preserved-then-not-is_empty
+loop-piece-preserved-then-not-is_empty c = look_past c.loop-piece.invariant c.in-Some.ensures.steps (eqb-false _ _ (sym c.is_empty.ensures ∙ c.if-not-is_empty.true)) c.if-left-eq0.false
 
-pub overflow_add-from : goal.overflow_add-from
-overflow_add-from c =
-    let cut : Turn 32 c.args.line.now c.loop-from.from c.piece_end-end.result =
-    turn _ _ _ _ c.loop-from-test.true c.piece_end-end.ensures in
-    let t = cut in omega arith
-
-pub loop-from-smaller : goal.loop-from-smaller
-loop-from-smaller c =
-    let cut : Turn 32 c.args.line.now c.loop-from.from c.piece_end-end.result =
-    turn _ _ _ _ c.loop-from-test.true c.piece_end-end.ensures in
-    let t = cut in omega arith
-
-pub loop-from-preserved : goal.loop-from-preserved
-loop-from-preserved c =
-    let cut : Turn 32 c.args.line.now c.loop-from.from c.piece_end-end.result =
-    turn _ _ _ _ c.loop-from-test.true c.piece_end-end.ensures in
-    let l = c.loop-from.invariant in
-    let t = cut in
-    elim c.if-from-end.branch [
-      | then-from-end+else-left-eq0 w ↦ rw w.left-is (look_past l t w.if-from-end.true w.if-left-eq0.false)
-      | else-from-end w ↦ rw w.left-is (look_none l t w.if-from-end.false)
-    ]
+pub loop-piece-preserved : goal.loop-piece-preserved
+loop-piece-preserved c = look_none c.loop-piece.invariant c.in-Some.ensures.steps (eqb-true _ _ (sym c.is_empty.ensures ∙ c.if-not-is_empty.false))
 
 pub returns : goal.returns
-returns c = let none = look_over c.loop-from.invariant c.loop-from-test.false in (none.0, refl, omega (arith, none.1))
+returns c =
+    let over = rw (ap (λ (p : Pieces). p.text) c.into_iter-piece-iterator.ensures.into_iter_gives ∙ c.pieces_of-piece-items.ensures.text) at
+    (look_over c.loop-piece.invariant c.in-None.ensures.steps) in
+    (over.0, over.1, omega (arith, over.2))
