@@ -3,7 +3,7 @@ use mathlib.Core.Path.{◌≡◌, refl}
 use mathlib.Core.Logic.{◌≢◌}
 use native.Mathlib.Omega.{arith}
 use Rattle.std.specs.Prelude.{Result, Ok, Err}
-use Rattle.board.specs.Answers.{number_of, number, value_or}
+use Rattle.board.specs.Answers.{plain, number_of, number, value_or, answer}
 use Rattle.board.specs.declared.answers.Refusal.{Refusal}
 use Rattle.board.specs.declared.answers.Refusal.TheVariants.{Unsound, Malformed, Missing, Standing, Lacking, OutOfScope, Loops, Outside, Unmanaged, BadFrame, BadRecord, NoRoom, NotEntitled, WrongState, NotTheirs}
 
@@ -24,6 +24,24 @@ number_of_some NoRoom = λ z. omega (arith, z)
 number_of_some NotEntitled = λ z. omega (arith, z)
 number_of_some WrongState = λ z. omega (arith, z)
 number_of_some NotTheirs = λ z. omega (arith, z)
+
+-- a refusal but 6 names nobody
+pub names_nobody : (r : Refusal) → number_of r ≢ 6 → answer {A = Unit {0}} (Err r) ≡ plain (number_of r)
+names_nobody Unsound n = refl
+names_nobody Malformed n = refl
+names_nobody Missing n = refl
+names_nobody Standing n = refl
+names_nobody Lacking n = refl
+names_nobody (OutOfScope who cause) n = absurd (n refl)
+names_nobody Loops n = refl
+names_nobody Outside n = refl
+names_nobody Unmanaged n = refl
+names_nobody BadFrame n = refl
+names_nobody BadRecord n = refl
+names_nobody NoRoom n = refl
+names_nobody NotEntitled n = refl
+names_nobody WrongState n = refl
+names_nobody NotTheirs n = refl
 
 module _ {A : Type 0} where
   -- a result with number 0 has its value, and another none

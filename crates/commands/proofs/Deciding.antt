@@ -7,12 +7,15 @@ use native.Mathlib.Omega.{arith}
 use borrow.Author.Tests.{le-leb, lt-leb}
 use Rattle.hierarchy.specs.Tables.{Tables, Shaped}
 use Rattle.hierarchy.specs.First.{First}
+use Rattle.hierarchy.specs.declared.working.Kept.{Kept}
 use Rattle.hierarchy.proofs.FirstLaws.{hit, none}
-use Rattle.board.specs.Boards.{tables_of, board_of, SoundBoard}
-use Rattle.board.specs.Answers.{plain}
+use Rattle.board.specs.Boards.{tables_of, kept_values, SoundBoard}
+use Rattle.std.specs.Prelude.{Err}
+use Rattle.board.specs.Answers.{Answer, plain, number_of, answer}
+use Rattle.board.specs.declared.answers.Refusal.{Refusal}
+use Rattle.board.proofs.Answering.{number_of_some, names_nobody}
 use Rattle.board.specs.declared.Board.{Board}
 use Rattle.board.specs.declared.Command.{Command}
-use Rattle.board.specs.declared.answers.Answer.{Answer}
 use Rattle.board.proofs.Rules.{first_done, first_other, first_refused, first_next}
 use Rattle.effects.specs.Effects.{after}
 use Rattle.effects.proofs.Edits.{tables_stay}
@@ -21,24 +24,23 @@ use Rattle.refusals.specs.Trusting.{BlamesBy, before_trusting}
 use Rattle.refusals.proofs.Blaming.{names_plain}
 use Rattle.commands.specs.Commands.{Decided}
 use Rattle.commands.specs.RightsAfter.{rights_after}
-use Rattle.commands.specs.Trusting.{late, RemadeHere, late_of, KeptTrusting, Remade, DecidedTrusting}
+use Rattle.commands.specs.Trusting.{late, LateBy, late_of, KeptTrusting, Remade, DecidedTrusting}
 
 -- ---- the two halves in a row
 
-pub decided_unsound : (b : Board) (c : Command) {m : Answer} → m ≡ plain 1 → (SoundBoard b → ⊥) → Decided b c m b
-decided_unsound b c e n =
-    subst (λ (m : Answer). Decided b c m b) (sym e) (record { numbered = hit _ _ _ n; named = names_plain 1 (λ e. omega arith); done = λ z. absurd (omega (arith, z)); refused = λ _. refl })
+pub decided_unsound : (b : Board) (c : Command) → (SoundBoard b → ⊥) → Decided b c (plain 1) b
+decided_unsound b c n = record { numbered = hit _ _ _ n; named = names_plain 1 (λ e. omega arith); done = λ z. absurd (omega (arith, z)); refused = λ _. refl }
 
 -- tables made anew, or left
-module _ (b : Board) {c : Command} {n : ℕ} {t : Tables} {derives derivers manager : List ℕ} (r : RemadeHere (tables_of b) c n t derives derivers manager) where
-  late_rows : First (late (after (tables_of b) c) c) n
-  late_rows = subst (λ (u : Tables). First (late u c) n) r.tables_are r.tried.numbered
+module _ (t : Tables) {next : Tables} (c : Command) (e : next ≡ after t c) (kept : Kept) where
+  late_rows : (n : ℕ) → First (late next c) n → First (late (after t c) c) n
+  late_rows n f = subst (λ (u : Tables). First (late u c) n) e f
 
-  pub remade_not : n ≢ 0 → Remade b c n b
-  remade_not h = record { numbered = late_rows; done = λ z. absurd (h z); refused = λ _. refl }
+  pub remade_not : {n : ℕ} {d u m : List ℕ} → n ≢ 0 → LateBy next c n d u m → Remade t kept c n t kept
+  remade_not {n} h r = record { numbered = late_rows n r.numbered; done = λ z. absurd (h z); refused = λ _. (refl, refl) }
 
-  pub remade_done : n ≡ 0 → (rights : List ℕ) → Remade b c 0 (board_of t.live t.i t.a derives derivers manager rights)
-  remade_done z rights = record { numbered = subst (First _) z late_rows; done = λ _. (r.tables_are, r.tried.right z); refused = λ h. absurd (h refl) }
+  pub remade_done : {d u m : List ℕ} → LateBy next c 0 d u m → Remade t kept c 0 next (kept_values d u m)
+  remade_done r = record { numbered = late_rows 0 r.numbered; done = λ _. (e, r.right refl); refused = λ h. absurd (h refl) }
 
 -- the rows afterwards, by the code
 pub late_low : (t : Tables) (c : Command) → c.code ≤ 5 → late_of t c ≡ late t c
@@ -55,45 +57,43 @@ module _ (b : Board) (c : Command) where
   ends = late_of (after (tables_of b) c) c
 
   -- a refusal by the rows on the board handed in leaves the very board
-  module _ {m : Answer} (h : m.number ≢ 0) (f : First rows m.number × Names (BlamesBy b.derives b.derivers c) m) (x : Board) (e : x ≡ b) where
-    pub decided_down : DecidedTrusting b c m x
-    decided_down = record { numbered = first_refused rows ends m.number h f.0; named = f.1; done = λ z. absurd (h z); refused = λ _. e }
+  pub decided_down : {m : Answer} → m.number ≢ 0 → First rows m.number × Names (BlamesBy b.kept.derives b.kept.derivers c) m → DecidedTrusting b c m b
+  decided_down {m} h f = record { numbered = first_refused rows ends m.number h f.0; named = f.1; done = λ z. absurd (h z); refused = λ _. refl }
 
-  module _ (j : ℕ) (clear : j ≡ 0) (passed : First rows j) where
-    clears : First rows 0
-    clears = subst (First rows) clear passed
-
+  module _ (clear : First rows 0) where
     past_all : (n : ℕ) → First ends n → First (rows ++ ends) n
-    past_all n f = first_next rows ends n (first_done rows refl clears) f
+    past_all n f = first_next rows ends n (first_done rows refl clear) f
 
-    made : {m : Answer} → m ≡ plain 0 → First ends 0 → (x : Board) → tables_of x ≡ after (tables_of b) c → x.rights ≡ rights_after c b.rights → KeptTrusting b c x → DecidedTrusting b c m x
-    made is f x e r kept = subst (λ (m : Answer). DecidedTrusting b c m x) (sym is) (record {
+    made : First ends 0 → (x : Board) → tables_of x ≡ after (tables_of b) c → x.rights ≡ rights_after c b.rights → KeptTrusting b c x → DecidedTrusting b c (plain 0) x
+    made f x e r kept = record {
       numbered = past_all 0 f;
       named = names_plain 0 (λ q. omega arith);
       done = λ _. record { tables_are = e; rights_are = r; fit = kept };
       refused = λ h. absurd (h refl);
-    })
+    }
 
     -- commands 6 and 7 change the rights alone
-    pub decided_rights : 5 < c.code → Shaped (tables_of b) → {m : Answer} → m ≡ plain 0 → (rights : List ℕ) → rights ≡ rights_after c b.rights
-        → DecidedTrusting b c m (board_of b.live b.i b.a b.derives b.derivers b.manager rights)
-    decided_rights h shaped is rights r = made is (subst (λ (l : List (ℕ × Type 0)). First l 0) (sym (late_high _ c h)) none) _ (sym (tables_stay (tables_of b) c shaped h)) r
-        (record { worked_out = λ l. absurd (omega (arith, h, l)); left = λ _. (refl, refl, refl) })
+    pub decided_rights : 5 < c.code → Shaped (tables_of b) → {rights : List ℕ} → rights ≡ rights_after c b.rights
+        → DecidedTrusting b c (plain 0) (record { tables = b.tables; kept = b.kept; rights = rights })
+    decided_rights h shaped r = made (subst (λ (l : List (ℕ × Type 0)). First l 0) (sym (late_high _ c h)) none) _ (sym (tables_stay (tables_of b) c shaped h)) r
+        (record { worked_out = λ l. absurd (omega (arith, h, l)); left = λ _. refl })
 
     -- the others what is made anew besides
-    module _ (low : c.code ≤ 5) (n : ℕ) {y : Board} (remade : Remade b c n y) where
-      late_at : First ends n
-      late_at = subst (λ (l : List (ℕ × Type 0)). First l n) (sym (late_low _ c low)) remade.numbered
+    module _ (low : c.code ≤ 5) {next : Tables} {worked : Kept} where
+      late_at : (n : ℕ) → Remade b.tables b.kept c n next worked → First ends n
+      late_at n remade = subst (λ (l : List (ℕ × Type 0)). First l n) (sym (late_low _ c low)) remade.numbered
 
-      pub decided_late : n ≢ 0 → {m : Answer} → m ≡ plain n → DecidedTrusting b c m y
-      decided_late h is = subst (λ (m : Answer). DecidedTrusting b c m y) (sym is) (record {
-        numbered = past_all n late_at;
-        named = names_plain n (first_other 6 (late (after (tables_of b) c) c) refl n remade.numbered);
-        done = λ z. absurd (h z);
-        refused = λ _. remade.refused h;
-      })
+      pub decided_late : (r : Refusal) → Remade b.tables b.kept c (number_of r) next worked
+          → DecidedTrusting b c (answer {A = Unit {0}} (Err r)) (record { tables = next; kept = worked; rights = b.rights })
+      decided_late r remade =
+          let six = first_other 6 (late (after (tables_of b) c) c) refl (number_of r) remade.numbered in record {
+            numbered = past_all (number_of r) (late_at (number_of r) remade);
+            named = subst (Names (BlamesBy b.kept.derives b.kept.derivers c)) (sym (names_nobody r six)) (names_plain (number_of r) six);
+            done = λ z. absurd (number_of_some r z);
+            refused = λ h. let q = remade.refused h in λ k. record { tables = q.0 k; kept = q.1 k; rights = b.rights };
+          }
 
-      pub decided_done : n ≡ 0 → {m : Answer} → m ≡ plain 0 → (rights : List ℕ) → rights ≡ rights_after c b.rights
-          → DecidedTrusting b c m (board_of y.live y.i y.a y.derives y.derivers y.manager rights)
-      decided_done z is rights r = let d = remade.done z in
-          made is (subst (First ends) z late_at) _ d.0 r (record { worked_out = λ _. d.1; left = λ h. absurd (omega (arith, h, low)) })
+      pub decided_done : Remade b.tables b.kept c 0 next worked → {rights : List ℕ} → rights ≡ rights_after c b.rights
+          → DecidedTrusting b c (plain 0) (record { tables = next; kept = worked; rights = rights })
+      decided_done remade r = let d = remade.done refl in
+          made (late_at 0 remade) _ d.0 r (record { worked_out = λ _. d.1; left = λ h. absurd (omega (arith, h, low)) })

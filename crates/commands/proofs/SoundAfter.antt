@@ -1,7 +1,7 @@
 -- A command that is done leaves sound tables. Assumes nothing.
-use mathlib.Core.Path.{◌≡◌, refl, sym, ap, ◌∙◌, subst}
+use mathlib.Core.Path.{◌≡◌, refl, sym, ap, ◌∙◌}
 use mathlib.Core.Bool.{Bool, true, false, cond, not, ◌&&◌, ◌||◌, or-true}
-use mathlib.Core.Logic.{inl, ⊎_elim, ◌≢◌}
+use mathlib.Core.Logic.{inl, inr, ⊎_elim, ◌≢◌}
 use mathlib.Core.List.{List}
 use Prim.Native.Nat.{ℕ, ◌≤◌, ◌<◌}
 use native.Mathlib.Omega.{arith}
@@ -10,7 +10,7 @@ use borrow.Author.Tests.{eqb-true, eqb-false, eq-eqb, ne_eqb, le-leb, not-true}
 use Rattle.sets.specs.Sets.{bit, ◌is_in◌}
 use Rattle.sets.proofs.Bools.{true_or_false, or_cases, or_left, or_right, and_left, and_right, false_no, lt_or_ge}
 use Rattle.sets.proofs.Laws.{set_of_fits, bit_set_of}
-use Rattle.hierarchy.specs.Tables.{Tables, tables, Live, Shaped, IsTable, row, has_i, has_a}
+use Rattle.hierarchy.specs.Tables.{Tables, Live, Shaped, row, has_i, has_a}
 use Rattle.hierarchy.specs.Words.{Scope, Joined, Sound}
 use Rattle.hierarchy.specs.First.{First}
 use Rattle.hierarchy.proofs.Admin.{admin_reaches}
@@ -20,7 +20,7 @@ use Rattle.hierarchy.proofs.Theorems.{no_senior}
 use Rattle.board.specs.declared.Command.{Command}
 use Rattle.board.proofs.Rules.{stable, first_done}
 use Rattle.effects.specs.Effects.{lives, pair, entry, after}
-use Rattle.effects.proofs.Edits.{table_length, table_fits, in_table, entry_1, entry_2, entry_past, entry_other, idles, live_stays, tables_are}
+use Rattle.effects.proofs.Edits.{table_length, table_fits, in_table, entry_1, entry_2, entry_none, entry_other, idles, live_stays, tables_are}
 use Rattle.refusals.specs.Refusals.{as_senior, as_junior, needed, strictly, Malformed, Missing, InScope, edge_kind}
 use Rattle.refusals.specs.Refusals.{Malformed.no_code}
 use Rattle.refusals.proofs.Blaming.{OnEdge, edge_is}
@@ -37,11 +37,6 @@ shaped_after b c = record {
   i_fits = table_fits c _ _ _ b.i;
   a_fits = table_fits c _ _ _ b.a;
 }
-
--- tables that are those afterwards are whole
-pub whole_after : (b : Tables) (c : Command) {live : ℕ} {i a : List ℕ} → tables live i a ≡ after b c → IsTable i × IsTable a
-whole_after b c e = let s = subst (λ (t : Tables). Shaped t) (sym e) (shaped_after b c) in
-    (record { rows = s.i_rows; fits = s.i_fits }, record { rows = s.a_rows; fits = s.a_fits })
 
 -- ---- who lives afterwards, and who must live before
 
@@ -121,7 +116,7 @@ module _ (b : Tables) (c : Command) (formed : Malformed c → ⊥) (present : (x
     edged n1 n2 =
         let three : 3 ≤ c.code = ⊎_elim (λ l. absurd (formed (no_code (inl l)))) (λ g. omega arith) (lt_or_ge c.code 1) in
         let left : entry c s j p o x y ≡ o → Alive x × Alive y = λ q. let l = joined x y (sym q ∙ here) in (alive x n2 l.0, alive y n2 l.1) in ⊎_elim
-        (λ past. left (entry_past c s j p o x y past))
+        (λ past. left (entry_none c s j p o x y (inr past)))
         (λ five. ⊎_elim
         (λ q. (
           alive x n2 (present x (needed_end c x (three, five) (or_left (eqb x c.role) (eqb x c.junior) (and_left (eqb x c.role) (eqb y c.junior) q)))),

@@ -9,10 +9,10 @@ use Rattle.hierarchy.specs.Views.{LiveLoops}
 use Rattle.hierarchy.specs.First.{First}
 use Rattle.hierarchy.proofs.FirstLaws.{first_unique}
 use Rattle.hierarchy.proofs.Bars.{out_unique, out_by_unique}
-use Rattle.board.specs.Boards.{tables_of, board_of}
+use Rattle.board.specs.Boards.{tables_of}
 use Rattle.board.specs.declared.Board.{Board}
+use Rattle.board.specs.Answers.{Answer}
 use Rattle.board.specs.declared.Command.{Command}
-use Rattle.board.specs.declared.answers.Answer.{Answer}
 use Rattle.board.proofs.Rules.{first_done, done_both}
 use Rattle.board.proofs.Unique.{by_number, right_board, one_board}
 use Rattle.effects.specs.Effects.{after}
@@ -42,8 +42,7 @@ decided_unique = decided_one (blames_one (λ a x c d v w. out_unique)) (λ _ s r
 pub decided_trusting_unique : {b : Board} {c : Command} {m n : Answer} {x y : Board} → DecidedTrusting b c m x → DecidedTrusting b c n y → (m ≡ n) × (x ≡ y)
 decided_trusting_unique {b} {c} d = decided_one (blames_one (λ a x c d v w. out_by_unique))
     (λ z f g e r. ⊎_elim
-    (λ high. let p = f.left high in let q = g.left high in
-    λ k. board_of (e k).live (e k).i (e k).a ((p.0 ∙ sym q.0) k) ((p.1 ∙ sym q.1) k) ((p.2 ∙ sym q.2) k) (r k))
+    (λ high. let q = f.left high ∙ sym (g.left high) in λ k. record { tables = e k; kept = q k; rights = r k })
     (λ low. right_board (λ l.
     let rows = (done_both (before_trusting b c) (late_of (after (tables_of b) c) c) refl (subst (First _) z d.numbered)).1 in
     (first_done (late (after (tables_of b) c) c) refl (subst (λ (t : List (ℕ × Type 0)). First t 0) (late_low _ c low) rows)).1.0 (subst (λ (t : Tables). LiveLoops t) (d.done z).tables_are l))

@@ -9,6 +9,7 @@ use Rattle.sets.proofs.Bools.{lt_or_ge}
 use Rattle.hierarchy.specs.Tables.{Tables}
 use Rattle.hierarchy.specs.Words.{Derives, Scope, Managed, Sound}
 use Rattle.hierarchy.specs.First.{First, Passed}
+use Rattle.hierarchy.specs.declared.working.Kept.{Kept}
 use Rattle.hierarchy.specs.Views.{LiveLoops, ScopeBy, RightValues}
 use Rattle.hierarchy.proofs.FirstLaws.{pass}
 use Rattle.hierarchy.proofs.Order.{joined_inward, joined_loops}
@@ -16,8 +17,8 @@ use Rattle.hierarchy.proofs.Bars.{out_by}
 use Rattle.board.specs.Boards.{tables_of, KeepsRight, SoundBoard}
 use Rattle.board.specs.Rights.{RightsFit}
 use Rattle.board.specs.declared.Board.{Board}
+use Rattle.board.specs.Answers.{Answer}
 use Rattle.board.specs.declared.Command.{Command}
-use Rattle.board.specs.declared.answers.Answer.{Answer}
 use Rattle.board.proofs.Rules.{first_done, first_none, first_alike, first_without}
 use Rattle.board.proofs.Keeping.{derives_kept, scope_kept}
 use Rattle.effects.specs.Effects.{after}
@@ -53,7 +54,7 @@ module _ {b : Board} (s : SoundBoard b) where
     refused = d.refused;
   }
     where
-      scope_row : (InScope (ScopeBy b.derives b.derivers) c → ⊥) ↔ (InScope (Scope (tables_of b)) c → ⊥)
+      scope_row : (InScope (ScopeBy b.kept.derives b.kept.derivers) c → ⊥) ↔ (InScope (Scope (tables_of b)) c → ⊥)
       scope_row =
           let e = in_scope_alike c (λ x. scope_kept s c.actor x) in
           (λ h k. h (e.1 k), λ h k. h (e.0 k))
@@ -61,16 +62,16 @@ module _ {b : Board} (s : SoundBoard b) where
       n : ℕ
       n = m.number
 
-      right_row : (Entitled (DerivesBy b.derives) b.rights c → ⊥) ↔ (Entitled (Derives (tables_of b)) b.rights c → ⊥)
+      right_row : (Entitled (DerivesBy b.kept.derives) b.rights c → ⊥) ↔ (Entitled (Derives (tables_of b)) b.rights c → ⊥)
       right_row =
           let e = entitled_alike b.rights c (λ x. derives_kept s c.actor x) in
           (λ h k. h (e.1 k), λ h k. h (e.0 k))
 
       -- what commands 6 and 7 leave was right before
-      stays : tables_of board ≡ after (tables_of b) c → (board.derives ≡ b.derives) × (board.derivers ≡ b.derivers) × (board.manager ≡ b.manager) → 5 < c.code → KeepsRight board
+      stays : tables_of board ≡ after (tables_of b) c → board.kept ≡ b.kept → 5 < c.code → KeepsRight board
       stays e q high =
-          subst (λ (t : Tables). RightValues t board.derives board.derivers board.manager) (sym (e ∙ tables_stay (tables_of b) c s.sound.shaped high))
-          (rw (q.0, q.1, q.2) s.right)
+          subst (λ (t : Tables). RightValues t board.kept.derives board.kept.derivers board.kept.manager) (sym (e ∙ tables_stay (tables_of b) c s.sound.shaped high))
+          (subst (λ (k : Kept). RightValues (tables_of b) k.derives k.derivers k.manager) (sym q) s.right)
 
       -- a sound board's entries still join live roles once the rows before are passed
       whole : Passed (before_trusting b c) → First (late (after (tables_of b) c) c) n → First (afterwards (after (tables_of b) c) c) n

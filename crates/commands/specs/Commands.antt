@@ -5,8 +5,8 @@ use Rattle.hierarchy.specs.Words.{Derives, Scope, OutOfScope, Administrator, Loo
 use Rattle.hierarchy.specs.First.{First}
 use Rattle.board.specs.Boards.{tables_of, SoundBoard}
 use Rattle.board.specs.declared.Board.{Board}
+use Rattle.board.specs.Answers.{Answer}
 use Rattle.board.specs.declared.Command.{Command}
-use Rattle.board.specs.declared.answers.Answer.{Answer}
 use Rattle.effects.specs.Effects.{after}
 use Rattle.refusals.specs.Refusals.{Blames, Names, before}
 use Rattle.commands.specs.RightsAfter.{rights_after}

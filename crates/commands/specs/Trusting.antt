@@ -3,11 +3,12 @@
 use Rattle.std.specs.Prelude.{◌≡◌, cond, ◌⊎◌, ◌≢◌, List, [], ◌∷◌, ◌++◌, ℕ, ◌≤◌, ◌<◌}
 use Rattle.hierarchy.specs.Tables.{Tables}
 use Rattle.hierarchy.specs.First.{First}
+use Rattle.hierarchy.specs.declared.working.Kept.{Kept}
 use Rattle.hierarchy.specs.Views.{InOrder, Inward, LiveLoops, AdminBy, RightValues}
 use Rattle.board.specs.Boards.{tables_of, KeepsRight}
 use Rattle.board.specs.declared.Board.{Board}
+use Rattle.board.specs.Answers.{Answer}
 use Rattle.board.specs.declared.Command.{Command}
-use Rattle.board.specs.declared.answers.Answer.{Answer}
 use Rattle.effects.specs.Effects.{after}
 use Rattle.refusals.specs.Entitled.{names_rights}
 use Rattle.refusals.specs.Trusting.{BlamesBy, before_trusting}
@@ -37,16 +38,11 @@ pub record LateBy (t : Tables) (c : Command) (number : ℕ) (derives derivers ma
   pub numbered : First (late t c) number
   pub right : number ≡ 0 → RightValues t derives derivers manager
 
--- the tables of a command and what is worked out for them, in place
-pub record RemadeHere (t : Tables) (c : Command) (number : ℕ) (next : Tables) (derives derivers manager : List ℕ) : Type 0 where
-  pub tables_are : next ≡ after t c
-  pub tried : LateBy next c number derives derivers manager
-
 -- tables and what is kept made anew, unless a row afterwards holds
-pub record Remade (b : Board) (c : Command) (number : ℕ) (board : Board) : Type 0 where
-  pub numbered : First (late (after (tables_of b) c) c) number
-  pub done : number ≡ 0 → (tables_of board ≡ after (tables_of b) c) × KeepsRight board
-  pub refused : number ≢ 0 → board ≡ b
+pub record Remade (t : Tables) (kept : Kept) (c : Command) (number : ℕ) (next : Tables) (worked : Kept) : Type 0 where
+  pub numbered : First (late (after t c) c) number
+  pub done : number ≡ 0 → (next ≡ after t c) × RightValues next worked.derives worked.derivers worked.manager
+  pub refused : number ≢ 0 → (next ≡ t) × (worked ≡ kept)
 
 -- The rows afterwards are tried where a command may change the tables: 6 and 7 don't, and leave what the board keeps as it is.
 abbrev pub late_of : Tables → Command → List (ℕ × Type 0)
@@ -54,7 +50,7 @@ late_of t c = cond (names_rights c) [] (late t c)
 
 pub record KeptTrusting (b : Board) (c : Command) (board : Board) : Type 0 where
   pub worked_out : c.code ≤ 5 → KeepsRight board
-  pub left : 5 < c.code → (board.derives ≡ b.derives) × (board.derivers ≡ b.derivers) × (board.manager ≡ b.manager)
+  pub left : 5 < c.code → board.kept ≡ b.kept
 
 abbrev pub DecidedTrusting : Board → Command → Answer → Board → Type 0
-DecidedTrusting b c = DecidedBy (before_trusting b c ++ late_of (after (tables_of b) c) c) (BlamesBy b.derives b.derivers c) (KeptTrusting b c) b c
+DecidedTrusting b c = DecidedBy (before_trusting b c ++ late_of (after (tables_of b) c) c) (BlamesBy b.kept.derives b.kept.derivers c) (KeptTrusting b c) b c

@@ -1,117 +1,68 @@
 // The rows on the tables that a command would leave, and the change where none of them refuses it.
-ghost use Rattle.std.specs.Prelude.{◌≡◌, true, ◌↔◌, List, ℕ};
-ghost use Rattle.hierarchy.specs.Tables.{tables, IsTable};
-ghost use Rattle.board.specs.Boards.{board_of};
-ghost use Rattle.commands.specs.Trusting.{OutOfOrder, OutsideBy, LateBy, RemadeHere, Remade};
+ghost use Rattle.std.specs.Prelude.{◌≡◌, true, ◌↔◌};
+ghost use Rattle.hierarchy.specs.Tables.{Shaped};
+ghost use Rattle.board.specs.Answers.{number, number_of};
+ghost use Rattle.commands.specs.Trusting.{OutOfOrder, OutsideBy, LateBy, Remade};
 
-use board::Command;
+use board::answers::Refusal;
+use board::{Code, Command};
 use effects::effect;
-use hierarchy::working::work_out;
-use sets::{Pick, but_lowest, lowest, union, within};
+use hierarchy::tables::Tables;
+use hierarchy::working::{Fault, Kept, work_out};
+use sets::{roles_of, union, within};
 
 // 8: the new role is outside the actor's strict scope.
-fn outside<'v>(down: &'v [u64; 64], up: &'v [u64; 64], c: Command) -> bool
-    ensures { (result ≡ true) ↔ OutsideBy down.now up.now c }
+fn outside(kept: &Kept, c: Command) -> bool
+    ensures { (result ≡ true) ↔ OutsideBy kept.now.derives kept.now.derivers c }
 {
-    if c.code != 1 {
+    if c.named() != Some(Code::AddRole) {
         return false;
     }
-    if c.actor == c.role {
-        return true;
-    }
-    !scopes::in_scope(down, up, c.actor as usize, c.role as usize)
+    c.actor == c.role || !scopes::in_scope(kept, c.actor as usize, c.role as usize)
 }
 
-// Why not all live roles settle: 7, some role reaches itself; or 1, a live role has a junior that isn't live, as after no sound board.
-fn out_of_order<'t>(live: u64, i: &'t [u64; 64], a: &'t [u64; 64]) -> u8
-    ensures { OutOfOrder (tables live i.now a.now) result }
+// Why not all live roles settle: some role reaches itself; or a live role has a junior that isn't live, as after no sound board.
+fn out_of_order(t: &Tables) -> Refusal
+    ensures { OutOfOrder t.now (number_of result) }
 {
-    let mut rest = live;
-    loop {
-        let Pick::Role(x) = lowest(rest) else {
-            return 7;
-        };
-        if !within(union(i[x], a[x]), live) {
-            return 1;
+    for x in roles_of(t.live) {
+        if !within(union(t.i[x], t.a[x]), t.live) {
+            return Refusal::Unsound;
         }
-        rest = but_lowest(rest);
     }
+    Refusal::Loops
 }
 
 // The refusals on the tables that the command would leave; where there is none, what a board of these keeps has been worked out.
-fn refused_after<'t>(
-    live: u64,
-    i: &'t [u64; 64],
-    a: &'t [u64; 64],
-    c: Command,
-    derives: &mut [u64; 64],
-    derivers: &mut [u64; 64],
-    manager: &mut [u8; 64],
-) -> u8
-    requires { IsTable i.now × IsTable a.now }
-    ensures { LateBy (tables live i.now a.now) c result derives.new derivers.new manager.new }
+fn refused_after(t: &Tables, c: Command, kept: &mut Kept) -> Result<(), Refusal>
+    requires { Shaped t.now }
+    ensures { LateBy t.now c (number result) kept.new.derives kept.new.derivers kept.new.manager }
 {
-    let number = work_out(live, i, a, derives, derivers, manager);
-    if number == 7 {
-        return out_of_order(live, i, a);
+    let worked = work_out(t, kept);
+    if worked == Err(Fault::Loops) {
+        return Err(out_of_order(t));
     }
-    if outside(derives, derivers, c) {
-        return 8;
+    if outside(kept, c) {
+        return Err(Refusal::Outside);
     }
-    number
+    worked?;
+    Ok(())
 }
 
-// Makes the tables those that the command would leave, and works out what a board of these keeps, in place. On refusal these tables stay.
-fn change_tables(
-    live: &mut u64,
-    i: &mut [u64; 64],
-    a: &mut [u64; 64],
-    derives: &mut [u64; 64],
-    derivers: &mut [u64; 64],
-    manager: &mut [u8; 64],
-    c: Command,
-) -> u8
-    ensures { RemadeHere (tables live.old i.old a.old) c result (tables live.new i.new a.new) derives.new derivers.new manager.new }
+// Makes the tables those that the command would leave, and works out what a board of these keeps, unless a row afterwards refuses it. On
+// refusal both stay.
+pub(crate) fn change_if_allowed(t: &mut Tables, kept: &mut Kept, c: Command) -> Result<(), Refusal>
+    ensures { Remade t.old kept.old c (number result) t.new kept.new }
 {
-    *live = effect(*live, i, a, c);
-    refused_after(*live, i, a, c, derives, derivers, manager)
-}
-
-// Changes the tables and what the board keeps, unless a row afterwards refuses it. On refusal all six stay.
-pub(crate) fn change_if_allowed(
-    live: &mut u64,
-    i: &mut [u64; 64],
-    a: &mut [u64; 64],
-    derives: &mut [u64; 64],
-    derivers: &mut [u64; 64],
-    manager: &mut [u8; 64],
-    c: Command,
-) -> u8
-    ensures { (rights : List ℕ) → Remade (board_of live.old i.old a.old derives.old derivers.old manager.old rights) c result (board_of live.new i.new a.new derives.new derivers.new manager.new rights) }
-{
-    let mut new_live = *live;
-    let mut new_i = *i;
-    let mut new_a = *a;
-    let mut down = [0u64; 64];
-    let mut up = [0u64; 64];
-    let mut managers = [0u8; 64];
-    let late = change_tables(
-        &mut new_live,
-        &mut new_i,
-        &mut new_a,
-        &mut down,
-        &mut up,
-        &mut managers,
-        c,
-    );
-    if late != 0 {
-        return late;
-    }
-    *live = new_live;
-    *i = new_i;
-    *a = new_a;
-    *derives = down;
-    *derivers = up;
-    *manager = managers;
-    0
+    let mut next = *t;
+    effect(&mut next, c);
+    let mut worked = Kept {
+        derives: [0; 64],
+        derivers: [0; 64],
+        manager: [0; 64],
+    };
+    refused_after(&next, c, &mut worked)?;
+    *t = next;
+    *kept = worked;
+    Ok(())
 }

@@ -1,114 +1,60 @@
 // The seven commands: one call decides a change and makes it. Knows the board, the effects and the rows on the board handed in; has the rows
 // afterwards, and all of them in the order of document 01.
 //
-// `decide` works on the parts of a board, `step` by value, `lent::apply` on a lent board. `decide_trusting` is for a caller that has just
-// found the board sound.
+// `decide` works on a board that is lent, `step` on one by value. `decide_trusting` is for a caller that has just found the board sound.
 #![tactic(auto)]
 
 mod afterwards;
-pub mod lent;
 mod rights;
 
-ghost use Rattle.board.specs.Boards.{board_of};
+ghost use Rattle.board.specs.Answers.{answer};
 ghost use Rattle.commands.specs.Commands.{Decided};
 ghost use Rattle.commands.specs.Trusting.{DecidedTrusting};
 
 use afterwards::change_if_allowed;
-use board::answers::Answer;
-use board::checks::sound_of;
+use board::answers::Refusal;
+use board::checks::sound;
 use board::{Board, Command};
-use hierarchy::shape::whole;
+use hierarchy::shape::shaped;
 use refusals::refused_on_board;
-use rights::change_rights;
+use rights::{change_rights, rights_alone};
 
 // The answer, and the board afterwards.
 #[derive(Clone, Copy)]
 pub struct Outcome {
-    pub answer: Answer,
+    pub answer: Result<(), Refusal>,
     pub board: Board,
 }
 
-// Decides one command on the board of these parts, whose own sets say what deriving and scope are, and changes it. Goes on with a board that
-// was just found sound: soundness isn't checked. On refusal all seven stay. Commands 6 and 7 leave the tables, so nothing is worked out for
-// them.
-pub fn decide_trusting(
-    live: &mut u64,
-    i: &mut [u64; 64],
-    a: &mut [u64; 64],
-    derives: &mut [u64; 64],
-    derivers: &mut [u64; 64],
-    manager: &mut [u8; 64],
-    rights: &mut [u8; 64],
-    c: Command,
-) -> Answer
-    ensures { DecidedTrusting (board_of live.old i.old a.old derives.old derivers.old manager.old rights.old) c result (board_of live.new i.new a.new derives.new derivers.new manager.new rights.new) }
+// Decides one command on a board whose own sets say what deriving and scope are, and changes it. Goes on with a board that was just found
+// sound: soundness isn't checked. On refusal the board stays. Commands 6 and 7 leave the tables, so nothing is worked out for them.
+pub fn decide_trusting(b: &mut Board, c: Command) -> Result<(), Refusal>
+    ensures { DecidedTrusting b.old c (answer result) b.new }
 {
-    let first = refused_on_board(*live, i, a, derives, derivers, rights, c);
-    if first.number != 0 {
-        return first;
+    shaped(b.tables);
+    refused_on_board(b, c)?;
+    if !rights_alone(c) {
+        change_if_allowed(&mut b.tables, &mut b.kept, c)?;
     }
-    if 5 < c.code {
-        whole(*i);
-        whole(*a);
-        change_rights(rights, c);
-        return Answer::plain(0);
-    }
-    let late = change_if_allowed(live, i, a, derives, derivers, manager, c);
-    if late != 0 {
-        return Answer::plain(late);
-    }
-    change_rights(rights, c);
-    Answer::plain(0)
+    change_rights(&mut b.rights, c);
+    Ok(())
 }
 
-// Decides one command on the board of these parts, soundness first, and changes it. On refusal all seven stay.
-pub fn decide(
-    live: &mut u64,
-    i: &mut [u64; 64],
-    a: &mut [u64; 64],
-    derives: &mut [u64; 64],
-    derivers: &mut [u64; 64],
-    manager: &mut [u8; 64],
-    rights: &mut [u8; 64],
-    c: Command,
-) -> Answer
-    ensures { Decided (board_of live.old i.old a.old derives.old derivers.old manager.old rights.old) c result (board_of live.new i.new a.new derives.new derivers.new manager.new rights.new) }
+// Decides one command on a board, soundness first, and changes it. On refusal the board stays.
+pub fn decide(b: &mut Board, c: Command) -> Result<(), Refusal>
+    ensures { Decided b.old c (answer result) b.new }
 {
-    if !sound_of(*live, i, a, derives, derivers, manager, rights) {
-        return Answer::plain(1);
+    if !sound(b) {
+        return Err(Refusal::Unsound);
     }
-    decide_trusting(live, i, a, derives, derivers, manager, rights, c)
+    decide_trusting(b, c)
 }
 
 // One command on a board by value.
 pub fn step(b: Board, c: Command) -> Outcome
-    ensures { Decided b c result.answer result.board }
+    ensures { Decided b c (answer result.answer) result.board }
 {
-    let mut live = b.live;
-    let mut i = b.i;
-    let mut a = b.a;
-    let mut derives = b.derives;
-    let mut derivers = b.derivers;
-    let mut manager = b.manager;
-    let mut rights = b.rights;
-    let answer = decide(
-        &mut live,
-        &mut i,
-        &mut a,
-        &mut derives,
-        &mut derivers,
-        &mut manager,
-        &mut rights,
-        c,
-    );
-    let board = Board {
-        live,
-        i,
-        a,
-        derives,
-        derivers,
-        manager,
-        rights,
-    };
+    let mut board = b;
+    let answer = decide(&mut board, c);
     Outcome { answer, board }
 }

@@ -1,30 +1,37 @@
 // What a command does to the rights that roles hold.
-ghost use Rattle.std.specs.Prelude.{◌≡◌};
+ghost use Rattle.std.specs.Prelude.{◌≡◌, true, ◌↔◌, ◌<◌};
 ghost use Rattle.sets.specs.Sets.{bit, set_of};
 ghost use Rattle.refusals.specs.Refusals.{Malformed};
 ghost use Rattle.commands.specs.RightsAfter.{holds, rights_after};
 
-use board::Command;
+use board::{Code, Command};
 use hierarchy::shape::whole_row;
 use sets::{minus, union};
+
+// Whether a command whose numbers are in range is about rights alone.
+pub(crate) fn rights_alone(c: Command) -> bool
+    requires { Malformed c → ⊥ }
+    ensures { (result ≡ true) ↔ (5 < c.code) }
+{
+    let Some(code) = c.named() else {
+        return false;
+    };
+    matches!(code, Code::GiveRights | Code::TakeRights)
+}
 
 // The rights of the role named, by those that it held.
 fn held_after(c: Command, held: u64) -> u64
     ensures { result ≡ set_of (λ k. holds c (bit held k) c.role k) }
 {
-    if c.code == 1 {
-        return 0;
+    let Some(code) = c.named() else {
+        return held;
+    };
+    match code {
+        Code::AddRole | Code::RemoveRole => 0,
+        Code::AddEdge | Code::RemoveEdge | Code::ChangeEdge => held,
+        Code::GiveRights => union(held, c.rights as u64),
+        Code::TakeRights => minus(held, c.rights as u64),
     }
-    if c.code == 2 {
-        return 0;
-    }
-    if c.code == 6 {
-        return union(held, c.rights as u64);
-    }
-    if c.code == 7 {
-        return minus(held, c.rights as u64);
-    }
-    held
 }
 
 // Makes the rights those that the command leaves.

@@ -1,19 +1,24 @@
+use mathlib.Core.Path.{refl, ap, ◌∙◌}
+use mathlib.Core.Logic.{⊎_elim}
 use native.Mathlib.Omega.{arith}
-use mathlib.Core.Path.{refl}
+use Rattle.board.specs.Codes.{code_number}
+use Rattle.refusals.proofs.Trying.{on_edge}
 use Rattle.commands.proofs.RightsLeft.{new_none, removed_none, given, taken, untouched}
 use Rattle.commands.proofs.rights.held_after.Goals as goal
 
-pub returns-then-c-eq1 : goal.returns-then-c-eq1
-returns-then-c-eq1 c = new_none _ _ _ c.if-c-eq1.true refl
+pub returns-in_default : goal.returns-in_default
+returns-in_default c = let h = c.in_default.ensures in untouched _ _ _ (omega arith) (λ e. omega (arith, e, h)) (λ e. omega (arith, e, h)) (λ e. omega (arith, e, h)) (λ e. omega (arith, e, h)) refl
 
-pub returns-then-c-eq2 : goal.returns-then-c-eq2
-returns-then-c-eq2 c = removed_none _ _ _ c.if-c-eq2.true refl
+pub returns-in-AddRole : goal.returns-in-AddRole
+returns-in-AddRole c = ⊎_elim (λ e. new_none _ _ _ (c.in-Some.ensures ∙ ap code_number e) refl) (λ e. removed_none _ _ _ (c.in-Some.ensures ∙ ap code_number e) refl) c.in-AddRole.is
 
-pub returns-then-c-eq6 : goal.returns-then-c-eq6
-returns-then-c-eq6 c = given _ _ _ (omega (arith, c.union.type_inv)) c.if-c-eq6.true c.union.ensures
+pub returns-in-AddEdge : goal.returns-in-AddEdge
+returns-in-AddEdge c =
+    let edge = on_edge c.args.c c.in-Some.code c.in-Some.ensures c.in-AddEdge.is in
+    untouched _ _ _ (omega arith) (λ e. omega (arith, e, edge.0)) (λ e. omega (arith, e, edge.0)) (λ e. omega (arith, e, edge.1)) (λ e. omega (arith, e, edge.1)) refl
 
-pub returns-then-c-eq7 : goal.returns-then-c-eq7
-returns-then-c-eq7 c = taken _ _ _ (omega (arith, c.minus.type_inv)) c.if-c-eq7.true c.minus.ensures
+pub returns-in-GiveRights : goal.returns-in-GiveRights
+returns-in-GiveRights c = given _ _ _ (omega (arith, c.union.type_inv)) (c.in-Some.ensures ∙ ap code_number c.in-GiveRights.is) c.union.ensures
 
-pub returns : goal.returns
-returns c = untouched _ _ _ (omega arith) c.if-c-eq1.false c.if-c-eq2.false c.if-c-eq6.false c.if-c-eq7.false refl
+pub returns-in-TakeRights : goal.returns-in-TakeRights
+returns-in-TakeRights c = taken _ _ _ (omega (arith, c.minus.type_inv)) (c.in-Some.ensures ∙ ap code_number c.in-TakeRights.is) c.minus.ensures
