@@ -80,7 +80,8 @@ pub fn release(
     let Some(held_by) = holder(marks, members, job) else {
         return Err(Refusal::WrongState);
     };
-    if held_by != member && scoped.bar.is_some() {
+    let by_holder = held_by == member;
+    if !by_holder && scoped.bar.is_some() {
         return Err(Refusal::NotTheirs);
     }
     free(marks, members, job);
