@@ -2,21 +2,21 @@
 use mathlib.Core.Path.{◌≡◌, refl, sym, ap, ap₂, ◌∙◌, subst}
 use mathlib.Core.Logic.{◌≢◌, ◌↔◌, dite}
 use mathlib.Core.List.{List, [], ◌∷◌, ◌++◌, map, append_assoc, map-append}
-use Prim.Native.Nat.{ℕ, suc, ◌≤◌, ◌<◌}
+use Prim.Native.Nat.{ℕ, suc, ◌+◌, ◌≤◌, ◌<◌}
 use native.Mathlib.Decide.{ℕ_discrete}
 use native.Mathlib.Omega.{arith}
 use lib.ListN.{length, get_or, set, take, drop, replicate, length-map, length-append}
-use lib.Seq.{length-take-le, take-suc, drop-cons, drop-append_seam, get_or-append_seam, set-append_seam}
+use lib.Seq.{length-take-le, take-suc, take_all, drop-cons, drop-append_seam, get_or-append_seam, set-append_seam}
 use Rattle.hierarchy.proofs.FirstLaws.{first_unique, hit, pass, none}
 use Rattle.board.specs.Boards.{SoundBoard}
 use Rattle.board.specs.Answers.{plain}
 use Rattle.board.specs.declared.Board.{Board}
 use Rattle.board.specs.declared.Command.{Command}
-use Rattle.board.specs.declared.answers.Answer.{Answer}
+use Rattle.board.specs.Answers.{Answer}
 use Rattle.commands.specs.Commands.{refusals, Decided}
 use Rattle.commands.proofs.Unique.{decided_unique}
 use Rattle.answers.specs.Packing.{answer_of}
-use Rattle.runs.specs.Runs.{Ran, row_after, run_refusals, Went, RanBy, InParts, InItsPlace}
+use Rattle.runs.specs.Runs.{Ran, row_after, run_refusals, Went, RanBy, RunAnswer, InParts, InItsPlace}
 use Rattle.runs.specs.Runs.{Ran.over, Ran.given}
 
 -- ---- one outcome
@@ -143,29 +143,34 @@ unsound_run wrong (given d r) =
 pub begins : (b : Board) (commands : List Command) (entry : List ℕ) → Went b (take 0 commands) entry entry b
 begins b commands entry = record { answers = []; ran = over; row = refl }
 
--- a turn: the k-th is given, and its answer put into place k
-pub goes_on : {b h next : Board} (commands : List Command) (entry : List ℕ) {row : List ℕ} (k : ℕ) {a : Answer} (d : Command) → k < length commands → k < length entry
-    → Went b (take k commands) entry row h → Decided h (get_or commands k d) a next → Went b (take (suc k) commands) entry (set row k (answer_of a 0 0)) next
-goes_on {b} {next = next} commands entry {row} k {a} d less room w e =
+-- a turn: the k-th, decided, put its answer into place k
+pub goes_on : {b h next : Board} (commands : List Command) (entry : List ℕ) {row : List ℕ} {k : ℕ} {a : Answer} (d : Command) → k < length commands → k < length entry
+    → Went b (take k commands) entry row h → Decided h (get_or commands k d) a next → {n : ℕ} → n ≡ answer_of a 0 0 → Went b (take (k + 1) commands) entry (set row k n) next
+goes_on {b} {next = next} commands entry {row} {k} {a} d less room w e {n} p =
     let done = w.answers in
-    let n : length done ≡ k = ran_length w.ran ∙ length-take-le k commands (omega (arith, less)) in
-    let more : suc k ≡ length (done ++ a ∷ []) = omega (arith, n, length-append done (a ∷ [])) in
-    let places : length (packed done) ≡ k = length-map done (λ a. answer_of a 0 0) ∙ n in
+    let many : length done ≡ k = ran_length w.ran ∙ length-take-le k commands (omega (arith, less)) in
+    let more : suc k ≡ length (done ++ a ∷ []) = omega (arith, many, length-append done (a ∷ [])) in
+    let places : length (packed done) ≡ k = length-map done (λ a. answer_of a 0 0) ∙ many in
+    let given_all : take (k + 1) commands ≡ take k commands ++ get_or commands k d ∷ [] = ap (λ (j : ℕ). take j commands) {x = k + 1} {y = suc k} (omega arith) ∙ take-suc commands k d less in
     record {
       answers = done ++ a ∷ [];
-      ran = subst (λ (l : List Command). Ran b l (done ++ a ∷ []) next) (sym (take-suc commands k d less)) (ran_join w.ran (given e over));
-      row = ap (λ (l : List ℕ). set l k (answer_of a 0 0)) (w.row ∙ ap (λ (j : ℕ). packed done ++ drop j entry) n ∙ ap (λ (l : List ℕ). packed done ++ l) (drop-cons entry k 0 room))
+      ran = subst (λ (l : List Command). Ran b l (done ++ a ∷ []) next) (sym given_all) (ran_join w.ran (given e over));
+      row = ap₂ (λ (l : List ℕ) (m : ℕ). set l k m) (w.row ∙ ap (λ (j : ℕ). packed done ++ drop j entry) many ∙ ap (λ (l : List ℕ). packed done ++ l) (drop-cons entry k 0 room)) p
           ∙ subst (λ (j : ℕ). set (packed done ++ get_or entry k 0 ∷ drop (suc k) entry) j (answer_of a 0 0) ≡ packed done ++ answer_of a 0 0 ∷ drop (suc k) entry) places
           (set-append_seam (packed done) (get_or entry k 0) (drop (suc k) entry) (answer_of a 0 0))
           ∙ ap (λ (j : ℕ). packed done ++ answer_of a 0 0 ∷ drop j entry) more
           ∙ sym (packed_at done a [] (drop (length (done ++ a ∷ [])) entry));
     }
 
--- ---- the ends of the loop, and of a run that isn't begun
+-- ---- the end of the loop, and a run that isn't begun
 
 pub too_short : (b : Board) (commands : List Command) (entry : List ℕ) {n places : ℕ} → places < n → RanBy (run_refusals n places) b commands entry entry 12 b
 too_short b commands entry lt = record { numbered = hit _ _ _ lt; done = λ z. absurd (omega (arith, z)); refused = λ _. (refl, refl) }
 
-pub all_given : {b h : Board} {commands : List Command} {entry row : List ℕ} (n places : ℕ) → n ≤ places → Went b commands entry row h
-    → RanBy (run_refusals n places) b commands entry row 0 h
-all_given n places le w = record { numbered = pass _ _ _ _ (λ lt. absurd (omega (arith, le, lt))) none; done = λ _. w; refused = λ z. absurd (z refl) }
+pub all_given : {b h : Board} {commands : List Command} {entry row : List ℕ} {k : ℕ} → length commands ≤ length entry → length commands ≤ k → Went b (take k commands) entry row h
+    → RunAnswer b commands entry row 0 h
+all_given {b} {h} {commands} {entry} {row} {k} room all w = record {
+  numbered = pass _ _ _ _ (λ lt. absurd (omega (arith, room, lt))) none;
+  done = λ _. subst (λ (l : List Command). Went b l entry row h) (take_all k commands all) w;
+  refused = λ z. absurd (z refl);
+}

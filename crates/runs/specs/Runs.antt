@@ -3,9 +3,10 @@ use Rattle.std.specs.Prelude.{◌≡◌, ◌≢◌, List, [], ◌∷◌, ◌++�
 use Rattle.hierarchy.specs.First.{First}
 use Rattle.board.specs.declared.Board.{Board}
 use Rattle.board.specs.declared.Command.{Command}
-use Rattle.board.specs.declared.answers.Answer.{Answer}
+use Rattle.board.specs.Answers.{Answer}
 use Rattle.commands.specs.Commands.{Decided}
 use Rattle.answers.specs.Packing.{answer_of}
+use Rattle.runs.specs.declared.Evening.{Evening}
 
 -- `Ran b commands answers last`: the commands are given one by one, the first to b and each other to the board that the one before it left,
 -- done or refused; these are their answers, and this is the last board.
@@ -41,6 +42,10 @@ RunAnswer b commands entry = RanBy (run_refusals (length commands) (length entry
 -- by value: the first n of 64 commands, with a row of 64 places of its own, each 0 before
 abbrev pub EveningAnswer : Board → List Command → ℕ → List ℕ → ℕ → Board → Type 0
 EveningAnswer b commands n = RanBy (run_refusals n 64) b (take n commands) (replicate 64 0)
+
+-- what a run by value has before any command is tried, and has still where it is refused
+abbrev pub untried : Board → Evening
+untried b = record { answers = replicate 64 0; board = b }
 
 -- ---- what the theorems on runs say
 

@@ -5,38 +5,30 @@
 // number, goes into its place of the row. Where the row is shorter than the run no command is tried.
 #![tactic(auto)]
 
-ghost use Rattle.std.specs.Prelude.{◌≡◌, replicate};
-ghost use Rattle.runs.specs.Runs.{RunAnswer, EveningAnswer};
+ghost use Rattle.board.specs.Answers.{answer, number, value_or};
+ghost use Rattle.runs.specs.Runs.{RunAnswer, EveningAnswer, untried};
 
 use answers::answered;
+use board::answers::Refusal;
 use board::{Board, Command};
-use commands::lent::apply_in_place;
-use commands::step;
-
-// want of room for the answers
-const NO_ROOM: u8 = 12;
+use commands::decide;
 
 // A run on the caller's own board. The places of the row beyond the run stay.
-pub fn run(board: &mut Board, commands: &[Command], answers: &mut [u64]) -> u8
-    ensures { RunAnswer board.old commands.now answers.old answers.new result board.new }
+pub fn run(board: &mut Board, commands: &[Command], answers: &mut [u64]) -> Result<(), Refusal>
+    ensures { RunAnswer board.old commands.now answers.old answers.new (number result) board.new }
 {
-    let n = commands.len();
-    if answers.len() < n {
-        return NO_ROOM;
+    if answers.len() < commands.len() {
+        return Err(Refusal::NoRoom);
     }
-    let mut k: usize = 0;
-    while k < n {
-        let a = apply_in_place(board, commands[k]);
-        answers[k] = answered(a);
-        k = k + 1;
+    for (k, command) in commands.iter().enumerate() {
+        answers[k] = answered(decide(board, *command));
     }
-    0
+    Ok(())
 }
 
-// What a run by value leaves: its number, an answer in each command's place and 0 in the others, and the last board.
+// What a run by value leaves: an answer in each command's place and 0 in the others, and the last board.
 #[derive(Clone, Copy)]
 pub struct Evening {
-    pub number: u8,
     pub answers: [u64; Evening::COMMANDS],
     pub board: Board,
 }
@@ -46,36 +38,21 @@ impl Evening {
     pub const COMMANDS: usize = 64;
 }
 
-// A row without answers.
-fn blank() -> [u64; Evening::COMMANDS]
-    ensures { result ≡ replicate 64 0 }
-{
-    [0u64; Evening::COMMANDS]
-}
-
 // The first n of these commands on a board by value, for callers that lend no slice of commands. More than the row has places is refused.
-pub fn run_by_value(board: Board, commands: [Command; Evening::COMMANDS], n: usize) -> Evening
-    ensures { EveningAnswer board commands n result.answers result.number result.board }
+pub fn run_by_value(
+    board: Board,
+    commands: [Command; Evening::COMMANDS],
+    n: usize,
+) -> Result<Evening, Refusal>
+    ensures { let e = value_or (untried board) result in EveningAnswer board commands n e.answers (number result) e.board }
 {
-    let mut answers = blank();
     if Evening::COMMANDS < n {
-        return Evening {
-            number: NO_ROOM,
-            answers,
-            board,
-        };
+        return Err(Refusal::NoRoom);
     }
-    let mut last = board;
-    let mut k: usize = 0;
-    while k < n {
-        let o = step(last, commands[k]);
-        answers[k] = answered(o.answer);
-        last = o.board;
-        k = k + 1;
-    }
-    Evening {
-        number: 0,
-        answers,
-        board: last,
-    }
+    let mut evening = Evening {
+        answers: [0; Evening::COMMANDS],
+        board,
+    };
+    run(&mut evening.board, &commands[..n], &mut evening.answers)?;
+    Ok(evening)
 }

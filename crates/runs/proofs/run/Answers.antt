@@ -1,17 +1,15 @@
-use mathlib.Core.Path.{refl}
-use Prim.Native.Nat.{zero-le}
-use Rattle.runs.proofs.Running.{begins, too_short}
-use Rattle.runs.proofs.Turns.{underway_on, underway_over}
+use native.Mathlib.Omega.{arith}
+use Rattle.runs.proofs.Running.{begins, too_short, goes_on, all_given}
 use Rattle.runs.proofs.run.Goals as goal
 
-pub returns-then-answers-n : goal.returns-then-answers-n
-returns-then-answers-n c = too_short _ _ _ c.if-answers-n.true
+pub returns-then-answers-commands : goal.returns-then-answers-commands
+returns-then-answers-commands c = too_short _ _ _ c.if-answers-commands.true
 
 pub loop-k-init : goal.loop-k-init
-loop-k-init c = record { within = zero-le; places = refl; went = begins _ c.args.commands.now _ }
+loop-k-init c = begins _ c.args.commands.now _
 
 pub loop-k-preserved : goal.loop-k-preserved
-loop-k-preserved c = underway_on _ _ _ c.if-answers-n.false c.loop-k-test.true c.loop-k.invariant c.apply_in_place-a.ensures c.answered.ensures
+loop-k-preserved c = goes_on _ _ _ c.loop-k-test.true (omega arith) c.loop-k.invariant c.decide.ensures c.answered.ensures
 
 pub returns : goal.returns
-returns c = underway_over c.if-answers-n.false c.loop-k-test.false c.loop-k.invariant
+returns c = all_given c.if-answers-commands.false c.loop-k-test.false c.loop-k.invariant
