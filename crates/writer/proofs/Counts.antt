@@ -81,6 +81,3 @@ count_turn {t} {n} {x} c l m e = record { count = more; within = omega arith }
 pub count_row : {t : Tables} {n x : ℕ} → Counted t n x → x < 64 → (i a s m : ℕ) → i ≡ row t.i x → a ≡ row t.a x → s < 2 ^ 64
     → ((y : ℕ) → bit s y ≡ (bit i y || bit a y)) → m ≡ ones s → Counted t (n + m) (x + 1)
 count_row {t} {n} {x} c l i a s m ei ea fits e is = count_turn c l m (row_count t x s fits (λ y. e y ∙ ap₂ (λ (p q : ℕ). bit p y || bit q y) ei ea) ∙ sym is)
-
-pub count_end : {t : Tables} {n x : ℕ} (senior : ℕ) → Counted t n x → x ≡ senior → n ≡ length (from (senior * 64) 0 (edge? (kind_at t)))
-count_end {t} senior c e = c.count ∙ ap (λ (k : ℕ). length (from (k * 64) 0 (edge? (kind_at t)))) e

@@ -1,12 +1,10 @@
 -- From the sizes and the bytes put to the writer's answer. Assumes nothing.
 use mathlib.Core.Path.{◌≡◌, refl, sym, ap, ◌∙◌}
-use mathlib.Core.Bool.{Bool, true, false}
+use mathlib.Core.Bool.{Bool, true, false, not}
 use mathlib.Core.Logic.{inl, inr}
 use mathlib.Core.List.{List, ◌++◌}
-use Prim.Native.Nat.{ℕ, ◌+◌, ◌-◌, ◌*◌, ◌^◌, ◌≤◌, ◌<◌}
-use native.Mathlib.Nat.{le_refl}
+use Prim.Native.Nat.{ℕ, ◌+◌, ◌-◌, ◌*◌, ◌≤◌}
 use native.Mathlib.Omega.{arith}
-use lib.Count.{ones}
 use lib.ListN.{length, take, drop, length-append, take-append-drop}
 use lib.Seq.{length-take-le}
 use borrow.Rule.Slice.PartMut.{mid_of, put_mid}
@@ -16,14 +14,14 @@ use Rattle.hierarchy.specs.First.{First}
 use Rattle.board.specs.Boards.{tables_of, SoundBoard}
 use Rattle.board.specs.declared.Board.{Board}
 use Rattle.frames.specs.Frames.{trailer, rights_trailer}
+use Rattle.frames.specs.declared.Layout.{Layout}
 use Rattle.frames.specs.Framing.{body_length, trailer_of}
 use Rattle.writer.specs.Files.{from, edge?, edge_bytes, kind_at, founding?, file_of}
-use Rattle.writer.specs.Parts.{tail_length, Put, Room, PutAnswer}
+use Rattle.writer.specs.Parts.{Laid, tail_length, Put, Room, PutAnswer}
 use Rattle.writer.specs.Writing.{NoRoom, WriteAnswer}
 use Rattle.writer.specs.Writing.{NoRoom.past_end, NoRoom.too_few}
 use Rattle.writer.proofs.Ascending.{from_short}
 use Rattle.writer.proofs.EdgeBytes.{records_length, roles_of, edges_of}
-use Rattle.writer.proofs.Counts.{ones_from}
 use Rattle.writer.proofs.OneFile.{file_trailed}
 use Rattle.writer.proofs.Puts.{put_last, rest_long}
 
@@ -38,29 +36,20 @@ frame_long false n e = omega arith
 pub file_length : (t : Tables) (rights : List ℕ) → length (file_of t rights) ≡ length (roles_of t rights) + length (edges_of t rights) + tail_length (founding? rights) (length (roles_of t rights))
 file_length t rights = (file_trailed t rights).long ∙ frame_long (founding? rights) (length (roles_of t rights)) (length (edges_of t rights))
 
-pub tail_few : (plain : Bool) (n : ℕ) → tail_length plain n ≤ n + 8
-unfolding tail_length
-tail_few true n = omega arith
-tail_few false n = le_refl (n + 8)
+module _ (t : Tables) (rights : List ℕ) {l : Layout} (laid : Laid t rights l) where
+  pub sizes_few : (l.roles ≤ 64) × (l.edges ≤ 4096)
+  sizes_few = (omega (arith, laid.roles, from_short 64 0 (bit t.live)), omega (arith, laid.edges, from_short 4096 0 (edge? (kind_at t))))
 
-module _ (t : Tables) {roles n : ℕ} (fits : t.live < 2 ^ 64) (r : roles ≡ ones t.live) (e : n ≡ length (from 4096 0 (edge? (kind_at t)))) where
-  role_bytes : roles ≡ length (from 64 0 (bit t.live))
-  role_bytes = r ∙ sym (ones_from 64 t.live fits)
-
-  edge_bytes_lem : 3 * n ≡ length (edge_bytes (kind_at t) 4096 0)
+  records_are : 3 * l.edges ≡ length (edge_bytes (kind_at t) 4096 0)
   unfolding edge_bytes
-  edge_bytes_lem = ap (λ (m : ℕ). 3 * m) e ∙ sym (records_length (kind_at t) (from 4096 0 (edge? (kind_at t))))
+  records_are = ap (λ (m : ℕ). 3 * m) laid.edges ∙ sym (records_length (kind_at t) (from 4096 0 (edge? (kind_at t))))
 
-  pub sizes_few : (roles ≤ 64) × (n ≤ 4096)
-  sizes_few = (omega (arith, role_bytes, from_short 64 0 (bit t.live)), omega (arith, from_short 4096 0 (edge? (kind_at t))))
+  pub file_long : l.roles + 3 * l.edges + tail_length (not l.rights) l.roles ≡ length (file_of t rights)
+  file_long = rw (laid.which, laid.roles, records_are) (sym (file_length t rights))
 
-  module _ (rights : List ℕ) {plain : Bool} {tail : ℕ} (w : plain ≡ founding? rights) (l : tail ≡ tail_length plain roles) where
-    pub file_long : roles + 3 * n + tail ≡ length (file_of t rights)
-    file_long = rw (l, role_bytes, edge_bytes_lem, w) (sym (file_length t rights))
-
-    pub file_room : (out : List ℕ) (at : ℕ) → at ≤ length out → roles + 3 * n + tail ≤ length out - at
-        → Room t rights plain roles (3 * n) (mid_of at (length out - at) out)
-    file_room out at _ h = record { which = w; role_bytes = role_bytes; edge_bytes_lem = edge_bytes_lem; enough = omega (arith, l, rest_long at out) }
+  pub file_room : (out : List ℕ) (at : ℕ) → l.roles + 3 * l.edges + tail_length (not l.rights) l.roles ≤ length out - at
+      → Room t rights (not l.rights) l.roles (3 * l.edges) (mid_of at (length out - at) out)
+  file_room out at h = record { which = laid.which; role_bytes = laid.roles; edge_bytes_lem = records_are; enough = omega (arith, rest_long at out) }
 
 -- ---- the answers
 

@@ -9,7 +9,7 @@ use lib.Dec.{eqb}
 use lib.ListN.{length, take, drop, set, length-append, length-drop, length-map}
 use lib.Seq.{take_all}
 use borrow.Rule.Slice.PartMut.{mid_of, put_mid}
-use Rattle.std.specs.Int.{w16, to_le_bytes}
+use Rattle.std.specs.Int.{from_bool, w16, to_le_bytes}
 use Rattle.std.specs.List.{AllZip}
 use Rattle.std.proofs.lemmas.Slice.Zip.{AllZip-long, AllZip-map, all_zipped_more}
 use Rattle.sets.specs.Sets.{bit, Taken, NoRole}
@@ -99,6 +99,12 @@ kind_some true false = refl
 kind_some false true = refl
 kind_some false false = refl
 
+pub kind_num : (p q : Bool) (x y : ℕ) → x ≡ from_bool p → y ≡ from_bool q → x + 2 * y ≡ kind_of p q
+kind_num true true x y e d = omega arith
+kind_num true false x y e d = omega arith
+kind_num false true x y e d = omega arith
+kind_num false false x y e d = omega arith
+
 pub record RowPut (x i a : ℕ) (d out : List ℕ) (rest k : ℕ) : Type 0 where
   pub next : ℕ
   pub taking : Taking (edge? (row_kinds i a)) (x * 64) rest next
@@ -120,9 +126,6 @@ module _ {x i a rest k : ℕ} {d out : List ℕ} (room : length (row_bytes x i a
   row_put_same =
       put_length (edge_bytes (row_kinds i a) inv.next (x * 64)) d out inv.put
       (omega (arith, edge_mono inv.next 64 (x * 64) (row_kinds i a) inv.taking.small))
-
-  pub row_put_few : k ≤ 192
-  row_put_few = omega (arith, inv.count, edge_few inv.next (x * 64) (row_kinds i a), inv.taking.small)
 
   ended : NoRole rest → edge_bytes (row_kinds i a) inv.next (x * 64) ≡ row_bytes x i a
   unfolding row_bytes edge_bytes

@@ -1,5 +1,5 @@
 -- What the parts of the writer do, and what the place of a senior's records is in the tables of a board.
-use Rattle.std.specs.Prelude.{◌≡◌, Bool, cond, ◌≢◌, List, [], ◌∷◌, ◌++◌, map, ℕ, ◌+◌, ◌*◌, ◌/◌, ◌%◌, ◌≤◌, ◌<◌, length, drop}
+use Rattle.std.specs.Prelude.{◌≡◌, Bool, not, cond, ◌≢◌, List, [], ◌∷◌, ◌++◌, map, ℕ, ◌+◌, ◌*◌, ◌/◌, ◌%◌, ◌≤◌, ◌<◌, length, drop}
 use Rattle.std.specs.List.{AllZip}
 use Rattle.sets.specs.Sets.{bit}
 use Rattle.hierarchy.specs.Tables.{Tables, kind_of}
@@ -7,9 +7,10 @@ use Rattle.hierarchy.specs.First.{First}
 use Rattle.board.specs.Rights.{rights_of}
 use Rattle.board.specs.Asked.{misnamed, Answered}
 use Rattle.frames.specs.Frames.{byte}
+use Rattle.frames.specs.declared.Layout.{Layout}
 use Rattle.frames.specs.Framing.{trailer_of}
 use Rattle.writer.specs.declared.records.Span.{Span}
-use Rattle.writer.specs.Files.{from, edge_bytes, kind_at, founding?}
+use Rattle.writer.specs.Files.{from, edge?, edge_bytes, kind_at, founding?}
 use Rattle.writer.specs.Writing.{Stands, NoRoom, Placed, Unplaced}
 
 -- ---- what the parts of the writer do
@@ -36,6 +37,12 @@ tail_of plain live rights roles edges = cond plain [] (map (rights_of rights) (f
 
 unfoldable pub tail_length : Bool → ℕ → ℕ
 tail_length plain roles = cond plain 6 (roles + 8)
+
+-- what lies in the file of a board
+pub record Laid (t : Tables) (rights : List ℕ) (l : Layout) : Type 0 where
+  pub which : not l.rights ≡ founding? rights
+  pub roles : l.roles ≡ length (from 64 0 (bit t.live))
+  pub edges : l.edges ≡ length (from 4096 0 (edge? (kind_at t)))
 
 pub record TailRoom (live : ℕ) (plain : Bool) (roles edges : ℕ) (out : List ℕ) : Type 0 where
   pub role_bytes : roles ≡ length (from 64 0 (bit live))

@@ -14,14 +14,15 @@ ghost use Rattle.std.specs.Prelude.{◌≡◌, ◌*◌, ◌≤◌, length};
 ghost use Rattle.board.specs.Boards.{tables_of};
 ghost use Rattle.board.specs.Answers.{number, value_or};
 ghost use Rattle.writer.specs.Files.{from, edge?, kind_at, founding?, file_of};
-ghost use Rattle.writer.specs.Parts.{PutAnswer};
+ghost use Rattle.writer.specs.Parts.{Laid, PutAnswer};
 ghost use Rattle.writer.specs.Writing.{WriteAnswer};
 
 use board::Board;
 use board::answers::Refusal;
 use board::checks::sound;
+use frames::Layout;
 use hierarchy::tables::Tables;
-use parts::{put_file, tail_len};
+use parts::{file_len, put_file};
 use sets::{size, union};
 
 // How many edges have a senior below this one.
@@ -50,22 +51,33 @@ pub fn founding(rights: &[u8; 64]) -> bool
     rights[0] == Board::ALL_RIGHTS && rights[1..].iter().all(|byte| *byte == 0)
 }
 
+// What lies in the file of the board of these tables and rights.
+fn layout_of(t: &Tables, rights: &[u8; 64]) -> Layout
+    ensures { Laid t.now rights.now result }
+{
+    Layout {
+        roles: size(t.live) as usize,
+        edges: edges_below(t, Board::ROLES),
+        rights: !founding(rights),
+    }
+}
+
 // The file of the board of these tables and rights, sound or not, into a buffer, from a place on; and its length.
+// `at` stays beside the buffer: `NoRoom.past_end` speaks of a place past its end.
 pub fn put(t: &Tables, rights: &[u8; 64], out: &mut [u8], at: usize) -> Result<usize, Refusal>
     ensures { PutAnswer (file_of t.now rights.now) out.old at out.new (number result) (value_or 0 result) }
 {
-    let roles = size(t.live) as usize;
-    let edges = 3 * edges_below(t, Board::ROLES);
-    let plain = founding(rights);
-    let len = roles + edges + tail_len(plain, roles);
+    let layout = layout_of(t, rights);
+    let len = file_len(layout);
     if out.len() < at || out.len() - at < len {
         return Err(Refusal::NoRoom);
     }
-    put_file(t, rights, plain, roles, edges, &mut out[at..]);
+    put_file(t, rights, layout, &mut out[at..]);
     Ok(len)
 }
 
 // The file of a board, into a buffer, from a place on; and its length.
+// `at` stays beside the buffer: `NoRoom.past_end` speaks of a place past its end.
 pub fn write(b: &Board, out: &mut [u8], at: usize) -> Result<usize, Refusal>
     ensures { WriteAnswer b.now out.old at out.new (number result) (value_or 0 result) }
 {

@@ -1,13 +1,12 @@
 // The parts of a board file, each put at the start of the bytes that are lent for it; what lies behind the part stays.
-ghost use Rattle.std.specs.Prelude.{◌≡◌, ℕ, map, ◌+◌, ◌*◌, ◌≤◌, ◌<◌, length};
+ghost use Rattle.std.specs.Prelude.{◌≡◌, not, ℕ, map, ◌+◌, ◌*◌, ◌≤◌, ◌<◌, length};
 ghost use Rattle.sets.specs.Sets.{bit};
-ghost use Rattle.hierarchy.specs.Tables.{kind_of};
 ghost use Rattle.board.specs.Rights.{rights_of};
 ghost use Rattle.frames.specs.Frames.{rights_trailer};
 ghost use Rattle.writer.specs.Files.{from, edge_bytes, kind_at, file_of};
 ghost use Rattle.writer.specs.Parts.{row_bytes, Put, PutEach, last_six, tail_of, tail_length, TailRoom, Room};
 
-use frames::{MARK, RIGHTS_MARK, RIGHTS_TRAILER, TRAILER, edges_back};
+use frames::{Layout, MARK, RIGHTS_MARK, RIGHTS_TRAILER, TRAILER, edges_back};
 use hierarchy::tables::Tables;
 use sets::{has, roles_of, union};
 
@@ -22,31 +21,15 @@ fn put_each<F: Fn(usize) -> u8>(live: u64, byte: F, out: &mut [u8])
     }
 }
 
-// The number of a kind, by its two parts.
-fn kind(i: bool, a: bool) -> u8
-    ensures { result ≡ kind_of i a }
-{
-    match (i, a) {
-        (false, false) => 0,
-        (true, false) => 1,
-        (false, true) => 2,
-        (true, true) => 3,
-    }
-}
-
-// The records of one senior, by its row in either table; and how many bytes they are.
+// The records of one senior, by its row in either table; and how many bytes they are. A kind is 1 for I, 2 for A and 3 for both.
 fn put_row(senior: usize, i: u64, a: u64, out: &mut [u8]) -> usize
     requires { (senior < 64) × (length (row_bytes senior i a) ≤ length out.old) }
     ensures { (result ≡ length (row_bytes senior i a)) × Put (row_bytes senior i a) out.old out.new }
 {
     let mut at: usize = 0;
     for junior in roles_of(union(i, a)) {
-        let record = [
-            senior as u8,
-            junior as u8,
-            kind(has(i, junior), has(a, junior)),
-        ];
-        out[at..at + 3].copy_from_slice(&record);
+        let kind = u8::from(has(i, junior)) + 2 * u8::from(has(a, junior));
+        out[at..at + 3].copy_from_slice(&[senior as u8, junior as u8, kind]);
         at += 3;
     }
     at
@@ -82,13 +65,14 @@ fn put_rights_trailer(rights: usize, edges: usize, roles: usize, out: &mut [u8])
     put_trailer(edges, roles, RIGHTS_MARK, &mut out[2..]);
 }
 
-// What lies behind the edge records in a file with so many role bytes and so many bytes of records: the trailer, and before it the
-// rights bytes where the board's rights aren't the founding ones.
-fn put_tail(live: u64, rights: &[u8; 64], plain: bool, roles: usize, edges: usize, out: &mut [u8])
-    requires { TailRoom live plain roles edges out.old }
-    ensures { Put (tail_of plain live rights.now roles edges) out.old out.new }
+// What lies behind the edge records in a file: the trailer, and before it the rights bytes where there are any.
+fn put_tail(live: u64, rights: &[u8; 64], layout: Layout, out: &mut [u8])
+    requires { TailRoom live (not layout.rights) layout.roles (3 * layout.edges) out.old }
+    ensures { Put (tail_of (not layout.rights) live rights.now layout.roles (3 * layout.edges)) out.old out.new }
 {
-    if plain {
+    let roles = layout.roles;
+    let edges = 3 * layout.edges;
+    if !layout.rights {
         put_trailer(edges, roles + edges, MARK, out);
         return;
     }
@@ -101,31 +85,26 @@ fn put_tail(live: u64, rights: &[u8; 64], plain: bool, roles: usize, edges: usiz
     );
 }
 
-// The whole file of a board that has so many role bytes and so many bytes of edge records.
-pub(crate) fn put_file(
-    t: &Tables,
-    rights: &[u8; 64],
-    plain: bool,
-    roles: usize,
-    edges: usize,
-    out: &mut [u8],
-)
-    requires { Room t.now rights.now plain roles edges out.old }
+// The whole file of a board that has so much in it.
+pub(crate) fn put_file(t: &Tables, rights: &[u8; 64], layout: Layout, out: &mut [u8])
+    requires { Room t.now rights.now (not layout.rights) layout.roles (3 * layout.edges) out.old }
     ensures { Put (file_of t.now rights.now) out.old out.new }
 {
-    let body = roles + edges;
+    let roles = layout.roles;
+    let body = roles + 3 * layout.edges;
     put_each(t.live, |role| role as u8, &mut out[..roles]);
     put_edges(t, &mut out[roles..body]);
-    put_tail(t.live, rights, plain, roles, edges, &mut out[body..]);
+    put_tail(t.live, rights, layout, &mut out[body..]);
 }
 
-// The bytes behind the edge records.
-pub(crate) fn tail_len(plain: bool, roles: usize) -> usize
-    requires { roles ≤ 64 }
-    ensures { result ≡ tail_length plain roles }
+// The bytes of a file that has so much in it.
+pub(crate) fn file_len(layout: Layout) -> usize
+    requires { (layout.roles ≤ 64) × (layout.edges ≤ 4096) }
+    ensures { result ≡ layout.roles + 3 * layout.edges + tail_length (not layout.rights) layout.roles }
 {
-    if plain {
-        return TRAILER;
+    let body = layout.roles + 3 * layout.edges;
+    if layout.rights {
+        return body + layout.roles + RIGHTS_TRAILER;
     }
-    roles + RIGHTS_TRAILER
+    body + TRAILER
 }
