@@ -5,7 +5,6 @@ ghost use Rattle.refusals.specs.Refusals.{Malformed};
 ghost use Rattle.commands.specs.RightsAfter.{holds, rights_after};
 
 use board::{Code, Command};
-use hierarchy::shape::whole_row;
 use sets::{minus, union};
 
 // Whether a command whose numbers are in range is about rights alone.
@@ -39,7 +38,6 @@ pub(crate) fn change_rights(rights: &mut [u8; 64], c: Command)
     requires { Malformed c → ⊥ }
     ensures { rights.new ≡ rights_after c rights.old }
 {
-    whole_row(*rights);
     let role = c.role as usize;
     let held = rights[role] as u64;
     rights[role] = held_after(c, held) as u8;
