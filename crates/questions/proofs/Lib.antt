@@ -2,4 +2,3 @@
 pub mod Unique
 pub mod Viewing
 pub mod Unsound
-pub mod Barring

@@ -2,18 +2,8 @@ use mathlib.Core.Path.{◌≡◌, sym, ◌∙◌}
 use mathlib.Core.Bool.{true}
 use mathlib.Core.Logic.{◌↔◌}
 use borrow.Author.Rules.{rules}
-use Rattle.sets.proofs.Bools.{false_no}
-use Rattle.board.proofs.Looking.{holds, fails, never, found_none, found_one, worked_sound, worked_unsound, worked_right, kept_is}
+use Rattle.board.proofs.Looking.{holds, never, found_none, found_one, worked_sound, worked_unsound, worked_right, kept_is}
 use Rattle.board.proofs.checks.sound.Goals as goal
-
-pub returns-then-not-rightful : goal.returns-then-not-rightful
-returns-then-not-rightful c = never (λ s. fails c.rightful.ensures c.if-not-rightful.true s.rightful)
-
-pub returns-then-not-has : goal.returns-then-not-has
-returns-then-not-has c = never (λ s. false_no (sym c.has.ensures ∙ c.if-not-has.true) s.sound.root)
-
-pub returns-then-not-joined : goal.returns-then-not-joined
-returns-then-not-joined c = never (λ s. fails c.joined.ensures c.if-not-joined.true s.sound.joined)
 
 pub returns-then-is_err : goal.returns-then-is_err
 returns-then-is_err c = never (λ s. worked_unsound c.work_out.ensures (found_one _ (sym c.is_err.ensures.value ∙ c.if-is_err.true)) s.sound)

@@ -1,6 +1,0 @@
-use mathlib.Core.Path.{refl}
-use Rattle.board.proofs.Asking.{answer_done}
-use Rattle.questions.proofs.line_manager_trusting.Goals as goal
-
-pub returns : goal.returns
-returns c = answer_done c.in_ok-refused.ensures refl c.line_manager.ensures
