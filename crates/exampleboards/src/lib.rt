@@ -3,30 +3,31 @@
 #![tactic(auto)]
 
 ghost use Rattle.std.specs.Prelude.{◌≡◌};
-ghost use Rattle.hierarchy.specs.Tables.{tables};
 ghost use Rattle.exampleboards.specs.Boards.{start_rights, Of, P, W, L, E, F, command, add_between, add_role, remove_role, add_edge, remove_edge, change_edge, give_rights, take_rights};
 
 use board::{Board, Command};
+use hierarchy::tables::Tables;
 use hierarchy::working::work_out;
 
+// The kinds by their letters, as numbers: a command has what C hands in, which may be no kind.
+pub const I: u32 = 1;
+
+pub const A: u32 = 2;
+
+pub const IA: u32 = 3;
+
 // The board of these tables, with all rights at roles 0 and 1; what it keeps is worked out.
-fn of(live: u64, i: [u64; 64], a: [u64; 64]) -> Board
-    ensures { Of (tables live i a) start_rights result }
+fn of(tables: Tables) -> Board
+    ensures { Of tables start_rights result }
 {
-    let mut derives = [0u64; 64];
-    let mut derivers = [0u64; 64];
-    let mut manager = [0u8; 64];
-    work_out(live, &i, &a, &mut derives, &mut derivers, &mut manager);
-    let mut rights = [0u8; 64];
+    let mut kept = Board::founding().kept;
+    let _ = work_out(&tables, &mut kept);
+    let mut rights = [0; Board::ROLES];
     rights[0] = Board::ALL_RIGHTS;
     rights[1] = Board::ALL_RIGHTS;
     Board {
-        live,
-        i,
-        a,
-        derives,
-        derivers,
-        manager,
+        tables,
+        kept,
         rights,
     }
 }
@@ -35,94 +36,71 @@ fn of(live: u64, i: [u64; 64], a: [u64; 64]) -> Board
 pub fn p() -> Board
     ensures { Of P start_rights result }
 {
-    let mut i = [0u64; Board::ROLES];
+    let mut i = [0; Board::ROLES];
     i[0] = 0b0010;
     i[1] = 0b0100;
-    let mut a = [0u64; Board::ROLES];
+    let mut a = [0; Board::ROLES];
     a[1] = 0b1000;
-    of(0b1111, i, a)
+    of(Tables { live: 0b1111, i, a })
 }
 
 // 0 I 1, 0 I 2, 0 I 3, 1 A 3, 1 A 4, 3 A 5, 4 A 5
 pub fn w() -> Board
     ensures { Of W start_rights result }
 {
-    let mut i = [0u64; Board::ROLES];
+    let mut i = [0; Board::ROLES];
     i[0] = 0b001110;
-    let mut a = [0u64; Board::ROLES];
+    let mut a = [0; Board::ROLES];
     a[1] = 0b011000;
     a[3] = 0b100000;
     a[4] = 0b100000;
-    of(0b111111, i, a)
+    of(Tables {
+        live: 0b111111,
+        i,
+        a,
+    })
 }
 
 // 0 I 1, 1 I 2, 2 A 3, 0 A 3
 pub fn l() -> Board
     ensures { Of L start_rights result }
 {
-    let mut i = [0u64; Board::ROLES];
+    let mut i = [0; Board::ROLES];
     i[0] = 0b0010;
     i[1] = 0b0100;
-    let mut a = [0u64; Board::ROLES];
+    let mut a = [0; Board::ROLES];
     a[0] = 0b1000;
     a[2] = 0b1000;
-    of(0b1111, i, a)
+    of(Tables { live: 0b1111, i, a })
 }
 
 // 0 I 1
 pub fn e() -> Board
     ensures { Of E start_rights result }
 {
-    let mut i = [0u64; Board::ROLES];
+    let mut i = [0; Board::ROLES];
     i[0] = 0b10;
-    of(0b11, i, [0u64; Board::ROLES])
+    let a = [0; Board::ROLES];
+    of(Tables { live: 0b11, i, a })
 }
 
 // 0 I 1, 1 A 3, 3 I 4, 0 I 4
 pub fn f() -> Board
     ensures { Of F start_rights result }
 {
-    let mut i = [0u64; Board::ROLES];
+    let mut i = [0; Board::ROLES];
     i[0] = 0b10010;
     i[3] = 0b10000;
-    let mut a = [0u64; Board::ROLES];
+    let mut a = [0; Board::ROLES];
     a[1] = 0b01000;
-    of(0b11011, i, a)
+    of(Tables {
+        live: 0b11011,
+        i,
+        a,
+    })
 }
 
-// A role added between seniors and juniors,
-pub fn add_between(
-    actor: u32,
-    role: u32,
-    a_seniors: u64,
-    i_seniors: u64,
-    a_juniors: u64,
-    i_juniors: u64,
-) -> Command
-    ensures { result ≡ add_between actor role a_seniors i_seniors a_juniors i_juniors }
-{
-    Command {
-        code: 1,
-        actor,
-        role,
-        junior: 0,
-        kind: 0,
-        rights: 0,
-        a_seniors,
-        i_seniors,
-        a_juniors,
-        i_juniors,
-    }
-}
-
-// and under seniors alone.
-pub fn add_role(actor: u32, role: u32, a_seniors: u64, i_seniors: u64) -> Command
-    ensures { result ≡ add_role actor role a_seniors i_seniors }
-{
-    add_between(actor, role, a_seniors, i_seniors, 0, 0)
-}
-
-// The other commands, which name no sets; a code above 7 is no command's.
+// A command that names no sets. Its code is the number that C hands in, and one above 7 is no command's.
 pub fn command(code: u32, actor: u32, role: u32, junior: u32, kind: u32, rights: u32) -> Command
     ensures { result ≡ command code actor role junior kind rights }
 {
@@ -138,6 +116,33 @@ pub fn command(code: u32, actor: u32, role: u32, junior: u32, kind: u32, rights:
         a_juniors: 0,
         i_juniors: 0,
     }
+}
+
+// A role added between seniors and juniors,
+pub fn add_between(
+    actor: u32,
+    role: u32,
+    a_seniors: u64,
+    i_seniors: u64,
+    a_juniors: u64,
+    i_juniors: u64,
+) -> Command
+    ensures { result ≡ add_between actor role a_seniors i_seniors a_juniors i_juniors }
+{
+    Command {
+        a_seniors,
+        i_seniors,
+        a_juniors,
+        i_juniors,
+        ..command(1, actor, role, 0, 0, 0)
+    }
+}
+
+// and under seniors alone.
+pub fn add_role(actor: u32, role: u32, a_seniors: u64, i_seniors: u64) -> Command
+    ensures { result ≡ add_role actor role a_seniors i_seniors }
+{
+    add_between(actor, role, a_seniors, i_seniors, 0, 0)
 }
 
 pub fn remove_role(actor: u32, role: u32) -> Command
