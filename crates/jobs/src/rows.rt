@@ -27,12 +27,14 @@ pub(crate) fn all_roles(listed: &[u8]) -> bool
     listed.iter().all(|role| *role < NO_ROLE)
 }
 
-// These go to the front of the row.
+// These go to the front of the row. By `copy_from_slice` the library would ask for `memmove`, and it is to ask for `memcpy` and `memset` alone.
 pub(crate) fn copy(listed: &[u8], roles: &mut [u8; 1024])
     requires { (length listed.now ≤ 1024) × (length roles.old ≡ 1024) }
     ensures { roles.new ≡ listed.now ++ drop (length listed.now) roles.old }
 {
-    roles[..listed.len()].copy_from_slice(listed);
+    for (k, role) in listed.iter().enumerate() {
+        roles[k] = *role;
+    }
 }
 
 // The role that a job is listed under; 64 past the list.

@@ -38,7 +38,8 @@ impl Evening {
     pub const COMMANDS: usize = 64;
 }
 
-// The first n of these commands on a board by value, for callers that lend no slice of commands. More than the row has places is refused.
+// The first n of these commands on a board by value, for callers that lend no slice of commands. More than the row has places is refused,
+// which a slice can't say: `EveningAnswer` holds this beside `run`.
 pub fn run_by_value(
     board: Board,
     commands: [Command; Evening::COMMANDS],
