@@ -1,108 +1,99 @@
-// The lines that the program writes. What was asked is written from the very values that are asked about.
+// A job list, and the lines that the program writes. What was asked is written from the very values that are asked about.
+use board::answers::Refusal;
 use board::{Board, Command};
-use commands::step;
-use jobs::State;
+use commands::decide;
 use std::io;
 
-fn text(rt: &impl Print, s: &[u8]) -> io::Result<()> {
-    rt.write_all(s)
+// The rows of a list.
+#[derive(Drop)]
+pub(crate) struct List {
+    roles: [u8; 1024],
+    marks: [u8; 1024],
+    members: [u32; 1024],
 }
 
-fn number(rt: &impl Print, n: u32) -> io::Result<()> {
-    print!(rt; "{n}")
-}
-
-// What came back, at the end of a line.
-fn answer(rt: &impl Print, n: u8) -> io::Result<()> {
-    text(rt, b": ")?;
-    number(rt, n as u32)?;
-    text(rt, b"\n")
-}
-
-fn asked(rt: &impl Print, member: u32, role: u32, deed: &[u8], job: u32) -> io::Result<()> {
-    text(rt, b"member ")?;
-    number(rt, member)?;
-    text(rt, b" in role ")?;
-    number(rt, role)?;
-    text(rt, deed)?;
-    number(rt, job)
-}
-
-pub(crate) fn start(
-    rt: &impl Print,
-    listed: &[u8],
-    roles: &mut [u8; 1024],
-    marks: &mut [u8; 1024],
-    members: &mut [u32; 1024],
-) -> io::Result<()> {
-    text(rt, b"a list of ")?;
-    print!(rt; "{}", listed.len())?;
-    answer(rt, jobs::start(listed, roles, marks, members))
-}
-
-pub(crate) fn claim(
-    rt: &impl Print,
-    b: Board,
-    roles: &[u8; 1024],
-    marks: &mut [u8; 1024],
-    members: &mut [u32; 1024],
-    job: u32,
-    member: u32,
-    role: u32,
-) -> io::Result<()> {
-    asked(rt, member, role, b" claims job ", job)?;
-    answer(rt, jobs::claim(b, roles, marks, members, job, member, role))
-}
-
-pub(crate) fn release(
-    rt: &impl Print,
-    b: Board,
-    roles: &[u8; 1024],
-    marks: &mut [u8; 1024],
-    members: &mut [u32; 1024],
-    job: u32,
-    member: u32,
-    role: u32,
-) -> io::Result<()> {
-    asked(rt, member, role, b" releases job ", job)?;
-    answer(
-        rt,
-        jobs::release(b, roles, marks, members, job, member, role),
-    )
-}
-
-// Whether a job is open or held, and by whom.
-pub(crate) fn job<'t>(
-    rt: &impl Print,
-    roles: &'t [u8; 1024],
-    marks: &'t [u8; 1024],
-    members: &'t [u32; 1024],
-    job: u32,
-) -> io::Result<()> {
-    text(rt, b"job ")?;
-    number(rt, job)?;
-    let seen = jobs::look(roles, marks, members, job);
-    if seen.number != 0 {
-        return answer(rt, seen.number);
-    }
-    let state = seen.state;
-    match state {
-        State::IsOpen => text(rt, b": open\n"),
-        State::HeldBy(m) => held(rt, m),
+// What came back: 0 for done, else the number of the refusal.
+fn number_of(answer: Result<(), Refusal>) -> u8 {
+    match answer {
+        Ok(()) => 0,
+        Err(why) => why.number(),
     }
 }
 
-fn held(rt: &impl Print, member: u32) -> io::Result<()> {
-    text(rt, b": held by ")?;
-    number(rt, member)?;
-    text(rt, b"\n")
+impl List {
+    // No list yet: `start` makes one.
+    pub(crate) fn new() -> Self {
+        List {
+            roles: [0; 1024],
+            marks: [0; 1024],
+            members: [0; 1024],
+        }
+    }
+
+    pub(crate) fn start(&mut self, rt: &impl Print, listed: &[u8]) -> io::Result<()> {
+        let answer = jobs::start(listed, &mut self.roles, &mut self.marks, &mut self.members);
+        println!(rt; "a list of {}: {}", listed.len(), number_of(answer))
+    }
+
+    pub(crate) fn claim(
+        &mut self,
+        rt: &impl Print,
+        b: &Board,
+        job: u32,
+        member: u32,
+        role: u32,
+    ) -> io::Result<()> {
+        let answer = jobs::claim(
+            b,
+            &self.roles,
+            &mut self.marks,
+            &mut self.members,
+            job,
+            member,
+            role,
+        );
+        println!(rt;
+            "member {member} in role {role} claims job {job}: {}",
+            number_of(answer)
+        )
+    }
+
+    pub(crate) fn release(
+        &mut self,
+        rt: &impl Print,
+        b: &Board,
+        job: u32,
+        member: u32,
+        role: u32,
+    ) -> io::Result<()> {
+        let answer = jobs::release(
+            b,
+            &self.roles,
+            &mut self.marks,
+            &mut self.members,
+            job,
+            member,
+            role,
+        );
+        println!(rt;
+            "member {member} in role {role} releases job {job}: {}",
+            number_of(answer)
+        )
+    }
+
+    // Whether a job is open or held, and by whom.
+    pub(crate) fn job(&self, rt: &impl Print, job: u32) -> io::Result<()> {
+        match jobs::look(&self.roles, &self.marks, &self.members, job) {
+            Ok(None) => println!(rt; "job {job}: open"),
+            Ok(Some(member)) => println!(rt; "job {job}: held by {member}"),
+            Err(why) => println!(rt; "job {job}: {}", why.number()),
+        }
+    }
 }
 
 // Role 0 gives a command, in words; the board afterwards.
-pub(crate) fn command(rt: &impl Print, words: &[u8], b: Board, c: Command) -> io::Result<Board> {
-    text(rt, b"actor 0 ")?;
-    text(rt, words)?;
-    let o = step(b, c);
-    answer(rt, o.answer.number)?;
-    Ok(o.board)
+pub(crate) fn commanded(rt: &impl Print, words: &str, b: &Board, c: Command) -> io::Result<Board> {
+    let mut board = *b;
+    println!(rt; "actor 0 {words}: {}", number_of(decide(&mut board, c)))?;
+    Ok(board)
 }
