@@ -1,18 +1,20 @@
 -- The answers of the questions on a file, and of the stretch, from those on its board. Assumes nothing.
-use mathlib.Core.Path.{◌≡◌, refl, ap, ap₂, ◌∙◌, subst}
+use mathlib.Core.Path.{◌≡◌, refl, ap, ap₂, ◌∙◌}
 use mathlib.Core.Logic.Iff
-use mathlib.Core.Logic.{◌⊎◌, inl, inr, ◌≢◌, dite}
+use mathlib.Core.Logic.{◌⊎◌, inl, inr, ◌≢◌}
 use mathlib.Core.List.{List, [], ◌∷◌}
 use Prim.Native.Nat.{ℕ, ◌+◌, ◌≤◌, ◌<◌}
-use native.Mathlib.Decide.{ℕ_discrete}
 use native.Mathlib.Omega.{arith}
 use lib.ListN.{length, take, drop}
 use Rattle.sets.specs.Sets.{◌is_in◌}
 use Rattle.hierarchy.specs.Tables.{Tables}
 use Rattle.hierarchy.specs.First.{First}
 use Rattle.board.specs.Boards.{tables_of}
+use Rattle.board.specs.Answers.{number_of}
 use Rattle.board.specs.Asked.{misnamed, Answered}
 use Rattle.board.specs.declared.Board.{Board}
+use Rattle.board.specs.declared.answers.Refusal.{Refusal}
+use Rattle.board.proofs.Answering.{number_of_some}
 use Rattle.board.proofs.Rules.{first_alike, first_done, first_refused, first_next}
 use Rattle.board.proofs.Asking.{answer_as}
 use Rattle.questions.specs.Questions.{refusals as questionRefusals}
@@ -20,6 +22,7 @@ use Rattle.writer.specs.Files.{stretch_of}
 use Rattle.writer.specs.Writing.{start_or_none, Stands}
 use Rattle.writer.proofs.Places.{stands_small, place_inside, place_is}
 use Rattle.boardfile.specs.Answers.{IsFile, TablesIn, refusals, ReadAnswer, asked_refusals, OfFile, BoundsAnswer, StretchAnswer}
+use Rattle.boardfile.specs.Stretches.{StretchOf}
 use Rattle.boardfile.proofs.OneBoard.{named_by}
 
 -- ---- the numbers
@@ -32,24 +35,24 @@ pub asked_refused : (f : List ℕ) (x y n : ℕ) → First (refusals f) n → n 
 asked_refused f x y n h z = first_refused (refusals f) (own f x y) n z h
 
 module _ {f : List ℕ} {b : Board} (r : ReadAnswer f 0 b) where
-  asked_own : (x y n : ℕ) → First (misnamed b.live x y) n → First (asked_refusals f x y) n
+  asked_own : (x y n : ℕ) → First (misnamed b.tables.live x y) n → First (asked_refusals f x y) n
   asked_own x y n h =
       first_next (refusals f) (own f x y) n (first_done (refusals f) refl r.numbered)
-      (first_alike (misnamed b.live x y) (own f x y) [] [] n (refl, Iff.rfl, (refl, named_by (r.done refl).0 Dead, tt)) (λ _ g. g) h)
+      (first_alike (misnamed b.tables.live x y) (own f x y) [] [] n (refl, Iff.rfl, (refl, named_by (r.done refl).0 Dead, tt)) (λ _ g. g) h)
     where
       Dead : Tables → Type 0
       Dead t = (x is_in t.live → ⊥) ⊎ (y is_in t.live → ⊥)
 
   module _ {A : Type 0} {Right : Board → A → Type 0} {none v : A} {n : ℕ} (x y : ℕ) where
     -- what holds of the board holds of the file
-    pub of_file : Answered (misnamed b.live x y) (Right b) none n v → Answered (asked_refusals f x y) (OfFile f Right) none n v
+    pub of_file : Answered (misnamed b.tables.live x y) (Right b) none n v → Answered (asked_refusals f x y) (OfFile f Right) none n v
     of_file a = answer_as (asked_own x y n) (λ _ h. (b, r, h)) a
 
     pub on_file : Answered (questionRefusals b x y) (Right b) none n v → Answered (asked_refusals f x y) (OfFile f Right) none n v
     unfolding First
     on_file a = of_file (answer_as past (λ _ h. h) a)
       where
-        past : First (questionRefusals b x y) n → First (misnamed b.live x y) n
+        past : First (questionRefusals b x y) n → First (misnamed b.tables.live x y) n
         past (inl p) = absurd (p.0 (r.done refl).1)
         past (inr p) = p.1
 
@@ -61,32 +64,32 @@ in_range f role h =
     let low : 63 < role → ⊥ = λ g. passed.1.1.1.1.0 (inl g) in
     omega (arith, low)
 
-module _ {f : List ℕ} {role number start len : ℕ} (a : BoundsAnswer f role number start len) where
-  found : number ≡ 0 → (t : Tables) × ((rights : List ℕ) × IsFile f t rights) × Stands role t (start, len) × (role < 64)
-  found e = let w = a.done e in (tables_of w.0, (w.0.rights, (w.1.done refl).0), w.2, in_range f role (subst (First (asked_refusals f role role)) e a.numbered))
+module _ {f : List ℕ} {role start len : ℕ} (a : BoundsAnswer f role 0 start len) where
+  found : (t : Tables) × ((rights : List ℕ) × IsFile f t rights) × Stands role t (start, len)
+  found = let w = a.done refl in (tables_of w.0, (w.0.rights, (w.1.done refl).0), w.2)
 
-  nowhere : number ≢ 0 → (start ≡ 0) × (len ≡ 0)
-  nowhere n = (ap (λ (p : ℕ × ℕ). p.0) (a.refused n), ap (λ (p : ℕ × ℕ). p.1) (a.refused n))
+  small : role < 64
+  small = in_range f role a.numbered
 
   -- both numbers take less than 16 bits, and lie in the file
   pub bounds_small : (start < 65536) × (len < 65536)
-  bounds_small = dite (ℕ_discrete number 0)
-      (λ e. let w = found e in stands_small w.0 role start len w.3 w.2)
-      (λ n. let w = nowhere n in (omega arith, omega arith))
+  bounds_small = let w = found in stands_small w.0 role start len small w.2
 
   pub bounds_inside : start + len ≤ length f
-  bounds_inside = dite (ℕ_discrete number 0)
-      (λ e. let w = found e in omega (arith, w.2.0, w.2.1, ap length w.1.1.bytes, place_inside w.0 role w.1.0 w.3))
-      (λ n. let w = nowhere n in omega arith)
+  bounds_inside = let w = found in omega (arith, w.2.0, w.2.1, ap length w.1.1.bytes, place_inside w.0 role w.1.0 small)
 
-  pub stretched : (k : ℕ) → k ≡ len → StretchAnswer f role (take k (drop start f)) start
+  pub stretched : (k : ℕ) → k ≡ len → StretchAnswer f role 0 (take k (drop start f)) start
   stretched k q = record {
-    number = number;
     numbered = a.numbered;
-    done = λ e. let w = found e in (
+    done = λ _. let w = found in (
       w.0,
       w.1,
-      (ap₂ (λ (n m : ℕ). take n (drop m f)) (q ∙ w.2.1) w.2.0 ∙ ap (λ (g : List ℕ). take (length (stretch_of w.0 role)) (drop (start_or_none w.0 role) g)) w.1.1.bytes ∙ place_is w.0 role w.1.0 w.3, w.2.0),
+      (ap₂ (λ (n m : ℕ). take n (drop m f)) (q ∙ w.2.1) w.2.0 ∙ ap (λ (g : List ℕ). take (length (stretch_of w.0 role)) (drop (start_or_none w.0 role) g)) w.1.1.bytes ∙ place_is w.0 role w.1.0 small, w.2.0),
     );
-    refused = λ n. let w = nowhere n in (ap₂ (λ (n m : ℕ). take n (drop m f)) (q ∙ w.1) w.0, w.0);
+    refused = λ n. absurd (n refl);
   }
+
+-- no part beside a refusal
+pub unstretched : {f : List ℕ} {role start len : ℕ} (e : Refusal) (file_at : ℕ × ℕ) → BoundsAnswer f role (number_of e) start len → StretchOf f file_at role (number_of e) [] file_at
+unstretched e file_at a =
+    (0, record { numbered = a.numbered; done = λ z. absurd (number_of_some e z); refused = λ _. (refl, refl) }, refl, omega arith)

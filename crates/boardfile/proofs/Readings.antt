@@ -11,13 +11,20 @@ use lib.Seq.{length-take-le, drop-drop}
 use Rattle.sets.specs.Sets.{bit, ◌is_in◌}
 use Rattle.sets.proofs.Bools.{lt_or_ge}
 use Rattle.sets.proofs.Digits.{bit_out}
-use Rattle.hierarchy.specs.Tables.{Tables, tables, row, Shaped, kind_of, kind}
+use Rattle.std.specs.Prelude.{Result, Ok, Err}
+use Rattle.hierarchy.specs.declared.working.Kept.{Kept}
+use Rattle.hierarchy.specs.declared.working.Fault.{Fault}
+use Rattle.hierarchy.specs.declared.working.Fault.TheVariants as fault
+use Rattle.board.specs.Answers.{number_of, faulted}
+use Rattle.board.specs.declared.answers.Refusal.{Refusal}
+use Rattle.board.specs.declared.answers.Refusal.TheVariants as refusal
+use Rattle.hierarchy.specs.Tables.{Tables, row, Shaped, kind_of, kind}
 use Rattle.hierarchy.specs.Words.{Joined, Loops, Managed}
 use Rattle.hierarchy.specs.First.{First}
-use Rattle.hierarchy.specs.Views.{InOrder, WorkedOut}
+use Rattle.hierarchy.specs.Views.{InOrder, WorkedOut, fault_number}
 use Rattle.hierarchy.proofs.FirstLaws.{pass}
 use Rattle.board.specs.Rights.{rights_of, RightsFit}
-use Rattle.board.specs.Boards.{board_of, founding_board, SoundBoard}
+use Rattle.board.specs.Boards.{founding_board, SoundBoard}
 use Rattle.board.specs.declared.Board.{Board}
 use Rattle.board.proofs.Rules.{first_alike}
 use Rattle.board.proofs.Looking.{disordered_loops, worked_sound, worked_right}
@@ -57,8 +64,8 @@ edge_junior t fi fa x y h = ⊎_elim
 
 -- ---- the parts together
 
-module _ {f : List ℕ} {n m live : ℕ} {i a : List ℕ} (roles : GoodRoles f n live) (edges : GoodEdges f n m live i a) where
-  shaped : Shaped (tables live i a)
+module _ {f : List ℕ} {n m : ℕ} {t : Tables} (roles : GoodRoles f n t.live) (edges : GoodEdges f n m t) where
+  shaped : Shaped t
   shaped = record {
     live_fits = roles.fits;
     i_rows = edges.i_table.rows;
@@ -67,14 +74,14 @@ module _ {f : List ℕ} {n m live : ℕ} {i a : List ℕ} (roles : GoodRoles f n
     a_fits = edges.a_table.fits;
   }
 
-  tidy : Tidy (bit live) (kind_at (tables live i a))
+  tidy : Tidy (bit t.live) (kind_at t)
   unfolding kind_at
-  tidy = record { root = roles.root; known = λ e. kind_known (tables live i a) (e / 64) (e % 64); fine = edges.fine }
+  tidy = record { root = roles.root; known = λ e. kind_known t (e / 64) (e % 64); fine = edges.fine }
 
-  joined : Joined (tables live i a)
+  joined : Joined t
   joined x y h =
-      let l = edge_junior (tables live i a) edges.i_table.fits edges.a_table.fits x y h in
-      let w = edges.fine (x * 64 + y) (λ e. h (sym (at_place (tables live i a) x y l) ∙ e)) in
+      let l = edge_junior t edges.i_table.fits edges.a_table.fits x y h in
+      let w = edges.fine (x * 64 + y) (λ e. h (sym (at_place t x y l) ∙ e)) in
       let xq : (x * 64 + y) / 64 ≡ x = omega arith in
       let yq : (x * 64 + y) % 64 ≡ y = omega arith in
       (rw xq at w.senior_lives, rw yq at w.junior_lives)
@@ -88,18 +95,18 @@ granted_told : (f : List ℕ) (n m live : ℕ) (rights : List ℕ) (w : Bool) �
 granted_told f n m live rights true g = g.1
 granted_told f n m live rights false g = rw g founding_itself
 
-module _ (f : List ℕ) (n m live : ℕ) (i a rights : List ℕ) (roles : GoodRoles f n live) (edges : GoodEdges f n m live i a) where
+module _ (f : List ℕ) (n m : ℕ) (t : Tables) (rights : List ℕ) (roles : GoodRoles f n t.live) (edges : GoodEdges f n m t) where
   abbrev rs : List ℕ
-  rs = from 64 0 (bit live)
+  rs = from 64 0 (bit t.live)
 
   abbrev es : List ℕ
-  es = edge_bytes (kind_at (tables live i a)) 4096 0
+  es = edge_bytes (kind_at t) 4096 0
 
   abbrev hs : List ℕ
   hs = map (rights_of rights) rs
 
   many_roles : n + 3 * m ≤ length f → length rs ≡ n
-  many_roles l = listed_many f n live roles.bytes (omega arith)
+  many_roles l = listed_many f n t.live roles.bytes (omega arith)
 
   many_edges : n + 3 * m ≤ length f → length es ≡ 3 * m
   many_edges l = ap length (sym edges.bytes) ∙ length-take-le (3 * m) (drop n f) (omega (arith, length-drop n f))
@@ -108,18 +115,18 @@ module _ (f : List ℕ) (n m live : ℕ) (i a rights : List ℕ) (roles : GoodRo
   trailer_as plain l = ap₂ (trailer_of plain) (sym (many_roles l)) (sym (many_edges l))
 
   -- what lies behind the edge records
-  behind : (w : Bool) → GoodFrame f n m w → Granted f n m w live rights → drop (n + 3 * m) f ≡ cond (not w) [] hs ++ trailer_of (not w) (length rs) (length es)
+  behind : (w : Bool) → GoodFrame f n m w → Granted f n m w t.live rights → drop (n + 3 * m) f ≡ cond (not w) [] hs ++ trailer_of (not w) (length rs) (length es)
   unfolding body_length
   behind false frame g = frame.trailed.tail ∙ trailer_as true (announced frame).room
   behind true frame g =
       sym (take-append-drop (length rs) (drop (n + 3 * m) f))
       ∙ ap₂ ◌++◌ g.0.bytes (drop-drop (length rs) (n + 3 * m) f ∙ ap (λ (k : ℕ). drop (n + 3 * m + k) f) (many_roles (announced frame).room) ∙ frame.trailed.tail ∙ trailer_as false (announced frame).room)
 
-  is_file : (w : Bool) → GoodFrame f n m w → Granted f n m w live rights → IsFile f (tables live i a) rights
+  is_file : (w : Bool) → GoodFrame f n m w → Granted f n m w t.live rights → IsFile f t rights
   is_file w frame g = record {
     shaped = shaped roles edges;
-    rightful = granted_fit f n m live rights w roles.root g;
-    bytes = parts ∙ ap (λ (p : Bool). whole p rs es hs) (sym (granted_told f n m live rights w g)) ∙ sym (file_whole (tables live i a) rights);
+    rightful = granted_fit f n m t.live rights w roles.root g;
+    bytes = parts ∙ ap (λ (p : Bool). whole p rs es hs) (sym (granted_told f n m t.live rights w g)) ∙ sym (file_whole t rights);
   }
     where
       parts : f ≡ whole (not w) rs es hs
@@ -130,14 +137,22 @@ module _ (f : List ℕ) (n m live : ℕ) (i a rights : List ℕ) (roles : GoodRo
 
 -- ---- the answers
 
-module _ {f : List ℕ} {n live : ℕ} {i a d u ms rights : List ℕ} where
-  pub refused_frame : BadFrame f → n ≡ 10 → Opening f n live i a d u ms rights
+module _ {f : List ℕ} {e : Refusal} (b : Board) where
+  pub refused_frame : BadFrame f × (e ≡ refusal.BadFrame) → Opening f (number_of e) b
   unfolding First
-  refused_frame h e = record { numbered = inl (h, e); done = λ z. absurd (omega arith) }
+  refused_frame h = rw h.1 record { numbered = inl (h.0, refl); done = λ z. absurd (omega (arith, z)) }
 
-  pub refused_record : (BadFrame f → ⊥) → BadRecord f → n ≡ 11 → Opening f n live i a d u ms rights
+  pub refused_record : (BadFrame f → ⊥) → BadRecord f × (e ≡ refusal.BadRecord) → Opening f (number_of e) b
   unfolding First
-  refused_record g h e = record { numbered = inr (g, inl (h, e)); done = λ z. absurd (omega arith) }
+  refused_record g h = rw h.1 record { numbered = inr (g, inl (h.0, refl)); done = λ z. absurd (omega (arith, z)) }
+
+faulted_number : (A : Type 0) (e : Fault) → fault_number {A = A} (Err e) ≡ number_of (faulted e)
+faulted_number A fault.Loops = refl
+faulted_number A fault.Unmanaged = refl
+
+faulted_some : (e : Fault) → number_of (faulted e) ≢ 0
+faulted_some fault.Loops z = omega (arith, z)
+faulted_some fault.Unmanaged z = omega (arith, z)
 
 -- what a board's own trouble says of the file
 module _ {f : List ℕ} {t : Tables} {rights : List ℕ} (number : ℕ) (frame : BadFrame f → ⊥) (record' : BadRecord f → ⊥) (is : IsFile f t rights)
@@ -149,49 +164,49 @@ module _ {f : List ℕ} {t : Tables} {rights : List ℕ} (number : ℕ) (frame :
       [] [] number (refl, named_by is Loops, (refl, named_by is (λ s. Managed s → ⊥), tt)) (λ _ g. g) own))
 
 -- where neither frame nor record has a fault, it is the board that may be in trouble
-module _ {f : List ℕ} {live n m number : ℕ} {w : Bool} {i a d u ms : List ℕ} (rights : List ℕ)
-    (frame : GoodFrame f n m w) (roles : GoodRoles f n live) (edges : GoodEdges f n m live i a) (granted : Granted f n m w live rights)
-    (worked : WorkedOut (tables live i a) number d u ms) where
-  abbrev t : Tables
-  t = tables live i a
+module _ {f : List ℕ} {n m live : ℕ} {w : Bool} {t : Tables} (rights : List ℕ) (k : Kept) {A : Type 0} (found : Result A Fault)
+    (frame : GoodFrame f n m w) (listed : GoodRoles f n live) (edges : (t.live ≡ live) × GoodEdges f n m t) (granted : Granted f n m w live rights)
+    (worked : WorkedOut t (fault_number found) k.derives k.derivers k.manager) where
+  roles : GoodRoles f n t.live
+  roles = subst (GoodRoles f n) (sym edges.0) listed
 
   is : IsFile f t rights
-  is = is_file f n m live i a rights roles edges w frame granted
+  is = is_file f n m t rights roles edges.1 w frame (subst (λ (l : ℕ). Granted f n m w l rights) (sym edges.0) granted)
 
   faultless : BadRecord f → ⊥
-  faultless h = good_records t rights (tidy roles edges) is.rightful (subst BadRecord is.bytes h)
+  faultless h = good_records t rights (tidy roles edges.1) is.rightful (subst BadRecord is.bytes h)
 
-  trouble : First (refusals f) number
-  trouble = numbered number frame.faultless faultless is
-      (first_alike ((7, (InOrder t → ⊥)) ∷ (9, (Managed t → ⊥)) ∷ []) ((7, Loops t) ∷ (9, (Managed t → ⊥)) ∷ []) [] [] number (refl, disordered_loops is.shaped (joined roles edges), (refl, Iff.rfl, tt)) (λ _ g. g) worked.numbered)
+  trouble : First (refusals f) (fault_number found)
+  trouble = numbered (fault_number found) frame.faultless faultless is
+      (first_alike ((7, (InOrder t → ⊥)) ∷ (9, (Managed t → ⊥)) ∷ []) ((7, Loops t) ∷ (9, (Managed t → ⊥)) ∷ []) [] [] (fault_number found) (refl, disordered_loops is.shaped (joined roles edges.1), (refl, Iff.rfl, tt)) (λ _ g. g) worked.numbered)
 
-  pub opened_not : {k l : ℕ} → number ≢ 0 → k ≡ number → Opening f k l i a d u ms rights
-  opened_not z e = record { numbered = subst (First (refusals f)) (sym e) trouble; done = λ q. absurd (z (sym e ∙ q)) }
+  pub opened_not : {e : Fault} {r : Refusal} (b : Board) → found ≡ Err e → r ≡ faulted e → Opening f (number_of r) b
+  opened_not {e} b h q = rw q record {
+    numbered = subst (First (refusals f)) (ap fault_number h ∙ faulted_number A e) trouble;
+    done = λ z. absurd (faulted_some e z);
+  }
 
-  pub opened : number ≡ 0 → Opening f 0 live i a d u ms rights
-  opened z = record {
+  pub opened : {v : A} → found ≡ Ok v → Opening f 0 (record { tables = t; kept = k; rights = rights })
+  opened h = let z = ap fault_number h in record {
     numbered = subst (First (refusals f)) z trouble;
-    done = λ _. (is, record { sound = worked_sound worked is.shaped roles.root (joined roles edges) z; right = worked_right worked z; rightful = is.rightful });
+    done = λ _. (is, record { sound = worked_sound worked is.shaped roles.root (joined roles edges.1) z; right = worked_right worked z; rightful = is.rightful });
   }
 
 -- ---- what a file that was opened says to the rest
 
-module _ {f : List ℕ} {number live : ℕ} {i a d u ms rights : List ℕ} (o : Opening f number live i a d u ms rights) where
+module _ {f : List ℕ} {number : ℕ} {b : Board} (o : Opening f number b) where
   pub read_refused : number ≢ 0 → ReadAnswer f number founding_board
   read_refused z = record { numbered = o.numbered; done = λ e. absurd (z e); refused = λ _. refl }
 
   pub into_refused : (entry : Board) → number ≢ 0 → ReadInto f entry entry number
   into_refused entry z = record { numbered = o.numbered; done = λ e. absurd (z e); refused = λ _. refl }
 
-  module _ (z : number ≡ 0) where
-    pub sound : SoundBoard (board_of live i a d u ms rights)
-    sound = (o.done z).1
+module _ {f : List ℕ} {b : Board} (o : Opening f 0 b) where
+  pub sound : SoundBoard b
+  sound = (o.done refl).1
 
-    pub passed : First (refusals f) 0
-    passed = subst (First (refusals f)) z o.numbered
+  pub read_done : ReadAnswer f 0 b
+  read_done = record { numbered = o.numbered; done = o.done; refused = λ n. absurd (n refl) }
 
-    pub read_done : ReadAnswer f 0 (board_of live i a d u ms rights)
-    read_done = record { numbered = passed; done = λ _. o.done z; refused = λ n. absurd (n refl) }
-
-    pub into_done : (entry : Board) → ReadInto f entry (board_of live i a d u ms rights) 0
-    into_done entry = record { numbered = passed; done = λ _. read_done; refused = λ n. absurd (n refl) }
+  pub into_done : (entry : Board) → ReadInto f entry b 0
+  into_done entry = record { numbered = o.numbered; done = λ _. read_done; refused = λ n. absurd (n refl) }

@@ -4,6 +4,7 @@ use mathlib.Core.Bool.{Bool}
 use mathlib.Core.List.{List}
 use Prim.Native.Nat.{ℕ, ◌+◌}
 use native.Mathlib.Omega.{arith}
+use Rattle.std.specs.Prelude.{Option}
 use Rattle.hierarchy.specs.Tables.{Tables}
 use Rattle.hierarchy.specs.First.{First}
 use Rattle.hierarchy.specs.Words.{OutOfScope, Sound}
@@ -11,11 +12,9 @@ use Rattle.hierarchy.proofs.Bars.{out_unique}
 use Rattle.hierarchy.proofs.ClimbLaws.{climb_unique}
 use Rattle.hierarchy.proofs.FirstLaws.{first_unique}
 use Rattle.board.specs.Boards.{tables_of}
-use Rattle.board.specs.Answers.{plain}
+use Rattle.board.specs.Answers.{Answer, plain}
 use Rattle.board.specs.declared.Board.{Board}
 use Rattle.board.specs.declared.Command.{Command}
-use Rattle.board.specs.declared.answers.Answer.{Answer}
-use Rattle.board.specs.declared.kept.Manager.{Manager}
 use Rattle.board.proofs.Unique.{answered_unique, by_number}
 use Rattle.questions.proofs.Unique.{says_unique, tells_unique, manages_unique}
 use Rattle.commands.specs.Commands.{Decided}
@@ -23,10 +22,9 @@ use Rattle.commands.proofs.Unique.{decided_unique}
 use Rattle.writer.specs.Files.{stretch_of}
 use Rattle.writer.specs.Writing.{start_or_none, WriteAnswer}
 use Rattle.writer.proofs.Unique.{write_unique}
-use Rattle.boardfile.specs.Answers.{refusals, ReadAnswer, ReadInto, asked_refusals, OfFile, DerivesOnFile, ScopeOnFile, ManagerOnFile, StepsOnFile, BoundsAnswer, StretchAnswer, CommandAnswer}
+use Rattle.boardfile.specs.Answers.{refusals, ReadAnswer, ReadInto, asked_refusals, OfFile, DerivesOnFile, ScopeOnFile, ManagerOnFile, StepsOnFile, BoundsAnswer, StretchAnswer, Place, CommandAnswer}
 use Rattle.boardfile.specs.Answers.{CommandAnswer.unread, CommandAnswer.refused, CommandAnswer.no_room, CommandAnswer.done}
 use Rattle.boardfile.specs.Stretches.{StretchOf}
-use Rattle.boardfile.specs.declared.change.Place.{Place}
 use Rattle.boardfile.proofs.OneBoard.{one_tables, one_board}
 
 -- read
@@ -68,7 +66,7 @@ module _ (f : List ℕ) where
       → (m ≡ n) × ◌≡◌ {A = Bool × ℕ × ℕ × ℕ} (p, j, c, v) (q, k, d, w)
   scope_file_unique a r = answered_unique (λ _. of_file_unique (λ b _. tells_unique (OutOfScope (tables_of b) a) (λ c d v w. out_unique)))
 
-  pub manager_file_unique : (r : ℕ) {m n : ℕ} {x y : Manager} → ManagerOnFile f r m x → ManagerOnFile f r n y → (m ≡ n) × (x ≡ y)
+  pub manager_file_unique : (r : ℕ) {m n : ℕ} {x y : Option ℕ} → ManagerOnFile f r m x → ManagerOnFile f r n y → (m ≡ n) × (x ≡ y)
   manager_file_unique r = answered_unique (λ _. of_file_unique (λ b. manages_unique b r))
 
   pub steps_file_unique : (r : ℕ) {m n j k : ℕ} → StepsOnFile f r m j → StepsOnFile f r n k → (m ≡ n) × (j ≡ k)
@@ -82,19 +80,20 @@ module _ (f : List ℕ) where
   pub bounds_unique : (role : ℕ) {m n i j k l : ℕ} → BoundsAnswer f role m i k → BoundsAnswer f role n j l → (m ≡ n) × ◌≡◌ {A = ℕ × ℕ} (i, k) (j, l)
   bounds_unique role = answered_unique (λ _. of_file_unique (λ b _ v w p q. ap₂ (λ (i k : ℕ). (i, k)) (p.0 ∙ sym q.0) (p.1 ∙ sym q.1)))
 
-  answer_one : (role : ℕ) {x y : List ℕ} {i j : ℕ} → StretchAnswer f role x i → StretchAnswer f role y j → (x ≡ y) × (i ≡ j)
-  answer_one role r s =
-      let e = first_unique (asked_refusals f role role) r.number s.number r.numbered s.numbered in
-      by_number r.number
+  answer_one : (role : ℕ) {m n i j : ℕ} {x y : List ℕ} → StretchAnswer f role m x i → StretchAnswer f role n y j → (m ≡ n) × (x ≡ y) × (i ≡ j)
+  answer_one role {m} {n} {i} {j} {x} {y} r s =
+      let e = first_unique (asked_refusals f role role) m n r.numbered s.numbered in
+      let same = by_number {P = (x ≡ y) × (i ≡ j)} m
       (λ z. let p = r.done z in let q = s.done (sym e ∙ z) in let same = one_tables p.1.1 q.1.1 in
       (p.2.0 ∙ ap (λ (t : Tables). stretch_of t role) same ∙ sym q.2.0, p.2.1 ∙ ap (λ (t : Tables). start_or_none t role) same ∙ sym q.2.1))
-      (λ z. let p = r.refused z in let q = s.refused (λ w. z (e ∙ w)) in (p.0 ∙ sym q.0, p.1 ∙ sym q.1))
+      (λ z. let p = r.refused z in let q = s.refused (λ w. z (e ∙ w)) in (p.0 ∙ sym q.0, p.1 ∙ sym q.1)) in
+      (e, same.0, same.1)
 
-  -- the bytes, and where they lie
-  pub stretch_unique : (file_at : ℕ × ℕ) (role : ℕ) {x y : List ℕ} {p q : ℕ × ℕ} → StretchOf f file_at role x p → StretchOf f file_at role y q → (x ≡ y) × (p ≡ q)
+  -- its number, the bytes, and where they lie
+  pub stretch_unique : (file_at : ℕ × ℕ) (role : ℕ) {m n : ℕ} {x y : List ℕ} {p q : ℕ × ℕ} → StretchOf f file_at role m x p → StretchOf f file_at role n y q → (m ≡ n) × (x ≡ y) × (p ≡ q)
   stretch_unique file_at role r s =
       let e = answer_one role r.1 s.1 in
-      (e.0, ap₂ (λ (k l : ℕ). (k, l)) (r.2 ∙ sym s.2) (r.3 ∙ ap (λ (n : ℕ). file_at.1 + n) e.1 ∙ sym s.3))
+      (e.0, e.1, ap₂ (λ (k l : ℕ). (k, l)) (r.2 ∙ sym s.2) (r.3 ∙ ap (λ (n : ℕ). file_at.1 + n) e.2 ∙ sym s.3))
 
 -- ---- a command on a file: the place, the number, the length and the whole buffer
 

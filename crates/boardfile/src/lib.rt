@@ -13,50 +13,19 @@ mod reader;
 mod rights;
 pub mod stretches;
 
+ghost use Rattle.board.specs.Answers.{number, value_or};
+ghost use Rattle.board.specs.Boards.{founding_board};
 ghost use Rattle.boardfile.specs.Answers.{ReadAnswer};
 
 use board::Board;
+use board::answers::Refusal;
 use opening::open;
 
-#[derive(Clone, Copy)]
-pub struct Reading {
-    pub number: u8,
-    pub board: Board,
-}
-
-// The board of a file; a file that is refused gives the founding board.
-pub fn read(file: &[u8]) -> Reading
-    ensures { ReadAnswer file.now result.number result.board }
+// The board of a file.
+pub fn read(file: &[u8]) -> Result<Board, Refusal>
+    ensures { ReadAnswer file.now (number result) (value_or founding_board result) }
 {
-    let mut i = [0u64; 64];
-    let mut a = [0u64; 64];
-    let mut derives = [0u64; 64];
-    let mut derivers = [0u64; 64];
-    let mut manager = [0u8; 64];
-    let mut rights = [0u8; 64];
-    let f = open(
-        file,
-        &mut i,
-        &mut a,
-        &mut derives,
-        &mut derivers,
-        &mut manager,
-        &mut rights,
-    );
-    if f.number != 0 {
-        return Reading {
-            number: f.number,
-            board: Board::founding(),
-        };
-    }
-    let board = Board {
-        live: f.live,
-        i,
-        a,
-        derives,
-        derivers,
-        manager,
-        rights,
-    };
-    Reading { number: 0, board }
+    let mut b = Board::founding();
+    open(file, &mut b)?;
+    Ok(b)
 }

@@ -1,40 +1,35 @@
 // The records of a board file: role bytes into the set of live roles, edge records into the two tables. Both stand in the order of a
 // number, the role or the place senior * 64 + junior, and `next` is the least that may come.
-ghost use Rattle.std.specs.Prelude.{◌≡◌, ◌&&◌, ◌||◌, ℕ, ◌+◌, ◌≤◌, length, replicate};
+ghost use Rattle.std.specs.Prelude.{◌≡◌, ◌&&◌, ◌||◌, ℕ, ◌+◌, ◌*◌, ◌≤◌, ◌<◌, length, replicate};
 ghost use Rattle.sets.specs.Sets.{bit, same?};
 ghost use Rattle.frames.specs.Frames.{role_count};
-ghost use Rattle.boardfile.specs.Parts.{Listing, Spelt, Judged, GoodRoles, Entering};
+ghost use Rattle.boardfile.specs.Parts.{Read, Spelt, Judged, Entered, GoodRoles, GoodEdges};
 ghost use Rattle.frames.specs.Framing.{Announced};
 
+use board::answers::Refusal;
+use frames::Layout;
+use hierarchy::tables::Tables;
 use sets::{has, with};
 
-#[derive(Clone, Copy)]
-pub(crate) enum Roles {
-    Live(u64),
-    Unlisted,
-}
-
 // The live roles, by the n bytes that list them.
-pub(crate) fn listed(file: &[u8], n: usize) -> Roles
+pub(crate) fn listed(file: &[u8], n: usize) -> Result<u64, Refusal>
     requires { (role_count file.now ≡ n) × (1 ≤ n) × (n ≤ length file.now) }
-    ensures { Listing file.now n result }
+    ensures { Read file.now (GoodRoles file.now n) result }
 {
     if file[0] != 0 {
-        return Roles::Unlisted;
+        return Err(Refusal::BadRecord);
     }
     let mut live: u64 = 0;
     let mut next: usize = 0;
-    let mut k: usize = 0;
-    while k < n {
-        let role = file[k] as usize;
+    for byte in &file[..n] {
+        let role = *byte as usize;
         if 63 < role || role < next {
-            return Roles::Unlisted;
+            return Err(Refusal::BadRecord);
         }
         live = with(live, role);
         next = role + 1;
-        k += 1;
     }
-    Roles::Live(live)
+    Ok(live)
 }
 
 #[derive(Clone, Copy)]
@@ -44,75 +39,69 @@ struct Edge {
     kind: usize,
 }
 
-// The edge record at a byte of the file.
-fn record(file: &[u8], at: usize) -> Edge
-    requires { at + 3 ≤ length file.now }
-    ensures { Spelt file.now at result.senior result.junior result.kind }
-{
-    let senior = file[at] as usize;
-    let junior = file[at + 1] as usize;
-    let kind = file[at + 2] as usize;
-    Edge {
-        senior,
-        junior,
-        kind,
+impl Edge {
+    // The edge that three bytes spell.
+    fn spelt(bytes: &[u8]) -> Self
+        requires { length bytes.now ≡ 3 }
+        ensures { Spelt bytes.now 0 result.senior result.junior result.kind }
+    {
+        Edge {
+            senior: bytes[0] as usize,
+            junior: bytes[1] as usize,
+            kind: bytes[2] as usize,
+        }
     }
-}
 
-// Whether it is right by itself, among these live roles.
-fn right(live: u64, senior: usize, junior: usize, kind: usize) -> bool
-    ensures { Judged live senior junior kind result }
-{
-    if !has(live, senior) {
-        return false;
+    // Its place in the order.
+    fn place(self) -> usize
+        requires { (self.senior < 256) × (self.junior < 256) }
+        ensures { result ≡ self.senior * 64 + self.junior }
+    {
+        self.senior * 64 + self.junior
     }
-    if !has(live, junior) {
-        return false;
+
+    // Whether it is right by itself, among these live roles.
+    fn is_right(self, live: u64) -> bool
+        ensures { Judged live self.senior self.junior self.kind result }
+    {
+        has(live, self.senior)
+            && has(live, self.junior)
+            && self.senior != self.junior
+            && 1 <= self.kind
+            && self.kind <= 3
     }
-    if senior == junior {
-        return false;
+
+    // Puts it into the tables: into either where its kind has the part.
+    fn enter(self, t: &mut Tables)
+        requires { self.senior < 64 }
+        ensures { Entered t.old self.senior self.junior self.kind t.new }
+    {
+        t.i[self.senior] = entered(t.i[self.senior], self.junior, self.kind != 2);
+        t.a[self.senior] = entered(t.a[self.senior], self.junior, self.kind != 1);
     }
-    if kind < 1 || 3 < kind {
-        return false;
-    }
-    true
 }
 
 // The row with one junior more, where the kind has the part of its table.
 fn entered(row: u64, junior: usize, part: bool) -> u64
     ensures { (y : ℕ) → bit result y ≡ (bit row y || (part && same? junior y)) }
 {
-    if part {
-        return with(row, junior);
-    }
-    row
+    if part { with(row, junior) } else { row }
 }
 
-// The m edge records behind n role bytes, into two blank tables; false where a record is wrong.
-pub(crate) fn edges(
-    file: &[u8],
-    n: usize,
-    m: usize,
-    live: u64,
-    i: &mut [u64; 64],
-    a: &mut [u64; 64],
-) -> bool
-    requires { Announced file.now n m × GoodRoles file.now n live × (i.old ≡ replicate 64 0) × (a.old ≡ replicate 64 0) }
-    ensures { Entering file.now n m live result i.new a.new }
+// The edge records behind the role bytes, into two blank tables. On refusal the tables hold anything.
+pub(crate) fn edges(file: &[u8], layout: Layout, t: &mut Tables) -> Result<(), Refusal>
+    requires { Announced file.now layout.roles layout.edges × GoodRoles file.now layout.roles t.old.live × (t.old.i ≡ replicate 64 0) × (t.old.a ≡ replicate 64 0) }
+    ensures { Read file.now (λ _. (t.new.live ≡ t.old.live) × GoodEdges file.now layout.roles layout.edges t.new) result }
 {
+    let start = layout.roles;
     let mut next: usize = 0;
-    let mut k: usize = 0;
-    while k < m {
-        let e = record(file, n + 3 * k);
-        let senior = e.senior;
-        let place = senior * 64 + e.junior;
-        if place < next || !right(live, senior, e.junior, e.kind) {
-            return false;
+    for bytes in file[start..start + 3 * layout.edges].chunks_exact(3) {
+        let e = Edge::spelt(bytes);
+        if e.place() < next || !e.is_right(t.live) {
+            return Err(Refusal::BadRecord);
         }
-        i[senior] = entered(i[senior], e.junior, e.kind != 2);
-        a[senior] = entered(a[senior], e.junior, e.kind != 1);
-        next = place + 1;
-        k += 1;
+        e.enter(t);
+        next = e.place() + 1;
     }
-    true
+    Ok(())
 }

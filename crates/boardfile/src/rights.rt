@@ -1,51 +1,44 @@
 // The rights bytes of a board file, one for each live role, ascending.
-ghost use Rattle.std.specs.Prelude.{◌≡◌, true, replicate};
+ghost use Rattle.std.specs.Prelude.{◌≡◌, ◌+◌, ◌*◌, true, length, replicate};
 ghost use Rattle.frames.specs.Framing.{GoodFrame};
-ghost use Rattle.boardfile.specs.Parts.{GoodRoles, Held, Holding, Granting};
+ghost use Rattle.boardfile.specs.Parts.{GoodRoles, GoodRights, Granted, Read};
 
 use board::Board;
-use sets::{Pick, but_lowest, lowest};
+use board::answers::Refusal;
+use frames::Layout;
+use sets::roles_of;
 use writer::founding;
 
-// The rights bytes from a place on, into a blank row; false where a byte has more than the five rights.
-fn held(file: &[u8], at: usize, live: u64, rights: &mut [u8; 64]) -> bool
-    requires { Held file.now at live × (rights.old ≡ replicate 64 0) }
-    ensures { Holding file.now at live result rights.new }
+// The rights bytes of a file that has them.
+fn held(file: &[u8], layout: Layout, live: u64) -> Result<[u8; 64], Refusal>
+    requires { GoodFrame file.now layout.roles layout.edges true × GoodRoles file.now layout.roles live }
+    ensures { Read file.now (GoodRights file.now (layout.roles + 3 * layout.edges) live) result }
 {
-    let mut k = at;
-    let mut rest = live;
-    loop {
-        let Pick::Role(x) = lowest(rest) else {
-            return true;
-        };
-        if Board::ALL_RIGHTS < file[k] {
-            return false;
+    let start = layout.roles + 3 * layout.edges;
+    let mut rights = [0; 64];
+    for (role, byte) in roles_of(live).zip(&file[start..]) {
+        if Board::ALL_RIGHTS < *byte {
+            return Err(Refusal::BadRecord);
         }
-        rights[x] = file[k];
-        rest = but_lowest(rest);
-        k += 1;
+        rights[role] = *byte;
     }
+    Ok(rights)
 }
 
-// The rights that a file gives, into a blank row: those of its rights bytes, or the founding board's where it has none. False where a byte
-// is wrong, or where the bytes say what a file without them would.
-pub(crate) fn holdings(
-    file: &[u8],
-    n: usize,
-    m: usize,
-    with_rights: bool,
-    live: u64,
-    rights: &mut [u8; 64],
-) -> bool
-    requires { GoodFrame file.now n m with_rights × GoodRoles file.now n live × (rights.old ≡ replicate 64 0) }
-    ensures { Granting file.now n m with_rights live result rights.new }
+// The rights that a file gives: those of its rights bytes, or the founding board's where it has none. Refused where a byte is wrong, or
+// where the bytes say what a file without them would.
+pub(crate) fn holdings(file: &[u8], layout: Layout, live: u64) -> Result<[u8; 64], Refusal>
+    requires { GoodFrame file.now layout.roles layout.edges layout.rights × GoodRoles file.now layout.roles live }
+    ensures { Read file.now (Granted file.now layout.roles layout.edges layout.rights live) result }
 {
-    if !with_rights {
+    if !layout.rights {
+        let mut rights = [0; 64];
         rights[0] = Board::ALL_RIGHTS;
-        return true;
+        return Ok(rights);
     }
-    if !held(file, n + 3 * m, live, rights) {
-        return false;
+    let rights = held(file, layout, live)?;
+    if founding(&rights) {
+        return Err(Refusal::BadRecord);
     }
-    !founding(rights)
+    Ok(rights)
 }

@@ -1,50 +1,28 @@
 // The edge records of one senior in a file: where they stand, and the part of the file that they are. The place is worked out from the
 // board, so that the file is read once.
-ghost use Rattle.hierarchy.specs.First.{First};
-ghost use Rattle.boardfile.specs.Answers.{asked_refusals, BoundsAnswer};
-ghost use Rattle.boardfile.specs.Stretches.{StretchOf};
+ghost use Rattle.board.specs.Answers.{number, value_or};
+ghost use Rattle.boardfile.specs.Answers.{BoundsAnswer};
+ghost use Rattle.boardfile.specs.Stretches.{Stretched};
+ghost use Rattle.writer.specs.Parts.{nowhere};
 
 use crate::opening::open;
-use writer::records::{Span, nothing, place};
+use board::Board;
+use board::answers::Refusal;
+use writer::records::{Span, place};
 
 // The place of the records of this senior in a file.
-pub fn bounds(file: &[u8], role: u32) -> Span
-    ensures { BoundsAnswer file.now role result.number result.start result.len }
+pub fn bounds(file: &[u8], role: u32) -> Result<Span, Refusal>
+    ensures { let span = value_or nowhere result in BoundsAnswer file.now role (number result) span.start span.len }
 {
-    let mut i = [0u64; 64];
-    let mut a = [0u64; 64];
-    let mut derives = [0u64; 64];
-    let mut derivers = [0u64; 64];
-    let mut manager = [0u8; 64];
-    let mut rights = [0u8; 64];
-    let f = open(
-        file,
-        &mut i,
-        &mut a,
-        &mut derives,
-        &mut derivers,
-        &mut manager,
-        &mut rights,
-    );
-    if f.number != 0 {
-        return nothing(f.number);
-    }
-    place(f.live, &i, &a, role)
-}
-
-// The number that goes with a stretch.
-pub fn stretch_number(file: &[u8], role: u32) -> u8
-    ensures { First (asked_refusals file.now role role) result }
-{
-    bounds(file, role).number
+    let mut b = Board::founding();
+    open(file, &mut b)?;
+    place(&b.tables, role)
 }
 
 // The edge records of one senior, as a part of the file.
-pub fn stretch(file: &[u8], role: u32) -> &[u8]
-    ensures { StretchOf file.now file.entry.ref_ptr role result.now result.ref_ptr }
+pub fn stretch(file: &[u8], role: u32) -> Result<&[u8], Refusal>
+    ensures { Stretched file.now file.entry.ref_ptr role result }
 {
-    let span = bounds(file, role);
-    let start = span.start;
-    let end = start + span.len;
-    &file[start..end]
+    let span = bounds(file, role)?;
+    Ok(&file[span.start..span.start + span.len])
 }

@@ -1,53 +1,19 @@
-use mathlib.Core.Path.{refl}
-use Rattle.board.specs.Boards.{board_of, SoundBoard}
-use Rattle.commands.specs.Commands.{Decided}
-use Rattle.commands.proofs.Viewing.{decided_viewed}
-use Rattle.boardfile.specs.Answers.{ReadAnswer, CommandAnswer.refused}
-use Rattle.boardfile.proofs.Readings.{sound, read_refused, read_done}
-use Rattle.boardfile.proofs.Commanding.{unread_as, wanting, finished}
+use mathlib.Core.Path.{◌≡◌}
+use borrow.Author.Rules.{rules}
+use Rattle.std.proofs.lemmas.Result.{err_from_is_err_and}
+use Rattle.boardfile.specs.declared.change.Rejected.TheVariants.{Asked}
+use Rattle.boardfile.proofs.Commanding.{done_before, refused_before, one_error, asked_as}
 use Rattle.boardfile.proofs.change.command.Goals as goal
 
-pub returns-then-f-ne0 : goal.returns-then-f-ne0
-returns-then-f-ne0 c = unread_as c.plain.ensures (read_refused c.open-f.ensures c.if-f-ne0.true) c.if-f-ne0.true refl
-
-pub returns-then-answer-ne0 : goal.returns-then-answer-ne0
-returns-then-answer-ne0 c =
-    let o = c.open-f in
-    let d = c.decide_trusting-answer in
-    let was = board_of o.result.live o.new.i o.new.a o.new.derives o.new.derivers o.new.manager o.new.rights in
-    let next = board_of d.new.live d.new.i d.new.a d.new.derives d.new.derivers d.new.manager d.new.rights in
-    let has-read : ReadAnswer c.args.file.now 0 was =
-    read_done o.ensures c.if-f-ne0.false in
-    let was-sound : SoundBoard was =
-    sound o.ensures c.if-f-ne0.false in
-    let decided : Decided was c.args.c d.result next =
-    decided_viewed was-sound {board = next} d.ensures in
-    refused has-read decided c.if-answer-ne0.true refl
-
-pub returns-then-w-ne0 : goal.returns-then-w-ne0
-returns-then-w-ne0 c =
-    let o = c.open-f in
-    let d = c.decide_trusting-answer in
-    let was = board_of o.result.live o.new.i o.new.a o.new.derives o.new.derivers o.new.manager o.new.rights in
-    let next = board_of d.new.live d.new.i d.new.a d.new.derives d.new.derivers d.new.manager d.new.rights in
-    let has-read : ReadAnswer c.args.file.now 0 was =
-    read_done o.ensures c.if-f-ne0.false in
-    let was-sound : SoundBoard was =
-    sound o.ensures c.if-f-ne0.false in
-    let decided : Decided was c.args.c d.result next =
-    decided_viewed was-sound {board = next} d.ensures in
-    wanting has-read decided c.if-answer-ne0.false c.put-w.ensures c.if-w-ne0.true c.plain-then-w-ne0.ensures
-
-pub returns : goal.returns
-returns c =
-    let o = c.open-f in
-    let d = c.decide_trusting-answer in
-    let was = board_of o.result.live o.new.i o.new.a o.new.derives o.new.derivers o.new.manager o.new.rights in
-    let next = board_of d.new.live d.new.i d.new.a d.new.derives d.new.derivers d.new.manager d.new.rights in
-    let has-read : ReadAnswer c.args.file.now 0 was =
-    read_done o.ensures c.if-f-ne0.false in
-    let was-sound : SoundBoard was =
-    sound o.ensures c.if-f-ne0.false in
-    let decided : Decided was c.args.c d.result next =
-    decided_viewed was-sound {board = next} d.ensures in
-    finished has-read decided c.if-answer-ne0.false c.put-w.ensures c.if-w-ne0.false
+pub returns-in_err-map_err-2 : goal.returns-in_err-map_err-2
+returns-in_err-map_err-2 c =
+    let z = done_before c.«open».result c.map_err.result c.map_err.ensures.variant c.in_ok-map_err.was in
+    let opened = rw z at c.«open».ensures in
+    let e = refused_before c.decide_trusting.result c.map_err-2.result c.map_err-2.ensures.variant c.in_err-map_err-2.was in
+    let decided = rw e.1 at c.decide_trusting.ensures in
+    let cases = rw e.1 at c.map_err-2.ensures.cases in
+    let named = err_from_is_err_and c.map_err-2.result cases in
+    let learnt = named.2 in
+    let kind : named.0 ≡ Asked e.0 = search rules in
+    let p = err_from_is_err_and c.from_residual-in_err-map_err-2.result c.from_residual-in_err-map_err-2.ensures.1 in
+    rw (p.1, p.2, one_error c.in_err-map_err-2.was named.1, kind) (asked_as opened e.0 decided)

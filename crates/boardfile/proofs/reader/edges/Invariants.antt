@@ -1,9 +1,9 @@
-use Prim.Native.Nat.{◌-◌}
-use Rattle.boardfile.proofs.EdgeRecords.{SoFar}
+use mathlib.Core.Path.{◌≡◌}
+use Rattle.std.specs.Slice.Iter.{chunks_exact_rest, chunks_exact_size}
+use Rattle.boardfile.proofs.EdgeRecords.{Going}
 use Rattle.boardfile.proofs.reader.edges.Given as goal
 
-abbrev pub invariant-loop-k : goal.invariant-loop-k
-invariant-loop-k l = SoFar l.file l.n l.m l.live l.k l.next l.i l.a
-
-abbrev pub decreases-loop-k : goal.decreases-loop-k
-decreases-loop-k l = l.m - l.k
+abbrev pub invariant-loop-bytes : goal.invariant-loop-bytes
+invariant-loop-bytes l =
+    (l.t.live ≡ l.initial.t.live)
+    × Going l.file l.start l.fn.layout.edges l.t.live l.next l.t.i l.t.a (chunks_exact_size l.bytes-iterator) (chunks_exact_rest l.bytes-iterator)

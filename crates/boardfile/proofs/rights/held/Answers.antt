@@ -1,65 +1,34 @@
-use mathlib.Core.Path.{sym, subst}
-use Prim.Native.Nat.{◌<◌}
+use mathlib.Core.Path.{refl}
+use mathlib.Core.Logic.{⊎_map}
 use native.Mathlib.Omega.{arith}
-use lib.ListN.{length}
-use Rattle.sets.specs.Sets.{LowestRole}
-use Rattle.sets.proofs.Laws.{ones_less}
-use Rattle.sets.proofs.Members.{picked, nobody}
-use Rattle.boardfile.proofs.RightBytes.{SoFar, held_start, held_end, held_inside, held_bad, held_turn}
+use Rattle.frames.proofs.Frames.{announced}
+use Rattle.boardfile.proofs.RightBytes.{held_start, held_end, held_bad, held_turn, rights_room, rights_high}
 use Rattle.boardfile.proofs.rights.held.Goals as goal
 
-pub loop-x-init : goal.loop-x-init
-loop-x-init c =
-    subst (SoFar c.args.file.now c.args.at c.args.live c.args.at c.args.live) (sym c.requires.1) (held_start _ _ _)
+pub overflow_mul-start : goal.overflow_mul-start
+overflow_mul-start c = omega (arith, (announced c.requires.0).room)
 
-pub returns-in_default : goal.returns-in_default
-returns-in_default c = held_end c.requires.0 c.loop-x.invariant (nobody c.in_default.is c.lowest.ensures)
+pub overflow_add-start : goal.overflow_add-start
+overflow_add-start c = omega (arith, (announced c.requires.0).room)
 
-pub bounds-file-k : goal.bounds-file-k
-bounds-file-k c =
-    let low : LowestRole c.loop-x.rest c.in-Role.x =
-    picked c.in-Role.is c.lowest.ensures in
-    let inside : c.loop-x.k < length c.args.file.now =
-    held_inside c.requires.0 c.loop-x.invariant low in
-    inside
+pub slice_bounds-zip-count : goal.slice_bounds-zip-count
+slice_bounds-zip-count c = omega (arith, (announced c.requires.0).room)
 
-pub returns-then-file-k-gt-ALL_RIGHTS : goal.returns-then-file-k-gt-ALL_RIGHTS
-returns-then-file-k-gt-ALL_RIGHTS c =
-    let low : LowestRole c.loop-x.rest c.in-Role.x =
-    picked c.in-Role.is c.lowest.ensures in
-    held_bad c.requires.0 c.loop-x.invariant low c.if-file-k-gt-ALL_RIGHTS.true
+pub slice_bounds-zip-start : goal.slice_bounds-zip-start
+slice_bounds-zip-start c = omega (arith, (announced c.requires.0).room)
 
-pub bounds-file-k-in-loop-x : goal.bounds-file-k-in-loop-x
-bounds-file-k-in-loop-x c =
-    let low : LowestRole c.loop-x.rest c.in-Role.x =
-    picked c.in-Role.is c.lowest.ensures in
-    let inside : c.loop-x.k < length c.args.file.now =
-    held_inside c.requires.0 c.loop-x.invariant low in
-    inside
+pub loop-role-init : goal.loop-role-init
+loop-role-init c = rw (c.into_iter-role-iterator.ensures.into_iter_gives, c.zip-role-items.ensures.first, c.roles_of.ensures) (held_start _ _ _ c.zip-role-items.ensures.second.0)
 
-pub bounds-rights-x : goal.bounds-rights-x
-bounds-rights-x c =
-    let low : LowestRole c.loop-x.rest c.in-Role.x =
-    picked c.in-Role.is c.lowest.ensures in
-    low.role
+pub returns-then-byte-gt-ALL_RIGHTS : goal.returns-then-byte-gt-ALL_RIGHTS
+returns-then-byte-gt-ALL_RIGHTS c =
+    let turn = c.in-Some.ensures.steps in
+    (rights_high c.requires.0 c.requires.1 (held_bad (rights_room c.requires.0 c.requires.1) c.loop-role.invariant turn.0 turn.1 c.if-byte-gt-ALL_RIGHTS.true), refl)
 
-pub overflow_add-k : goal.overflow_add-k
-overflow_add-k c =
-    let low : LowestRole c.loop-x.rest c.in-Role.x =
-    picked c.in-Role.is c.lowest.ensures in
-    let inside : c.loop-x.k < length c.args.file.now =
-    held_inside c.requires.0 c.loop-x.invariant low in
-    omega (arith, inside)
+pub loop-role-preserved : goal.loop-role-preserved
+loop-role-preserved c =
+    let turn = c.in-Some.ensures.steps in
+    held_turn (rights_room c.requires.0 c.requires.1) c.loop-role.invariant turn.0 turn.1 c.if-byte-gt-ALL_RIGHTS.false
 
-pub loop-x-smaller : goal.loop-x-smaller
-loop-x-smaller c =
-    let low : LowestRole c.loop-x.rest c.in-Role.x =
-    picked c.in-Role.is c.lowest.ensures in
-    let l = low in ones_less _ _ _ l.role l.member (c.but_lowest-rest.ensures.rest _ l)
-
-pub loop-x-preserved : goal.loop-x-preserved
-loop-x-preserved c =
-    let low : LowestRole c.loop-x.rest c.in-Role.x =
-    picked c.in-Role.is c.lowest.ensures in
-    let l = low in
-    held_turn c.requires.0 c.loop-x.invariant l c.but_lowest-rest.result (c.but_lowest-rest.ensures.rest _ l) c.if-file-k-gt-ALL_RIGHTS.false
+pub returns : goal.returns
+returns c = held_end (rights_room c.requires.0 c.requires.1) c.loop-role.invariant (⊎_map (λ n. n.1) (λ z. z.1.0) c.in-None.ensures.steps)

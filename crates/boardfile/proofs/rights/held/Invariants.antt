@@ -1,9 +1,7 @@
-use lib.Count.{ones}
+use Rattle.std.specs.Iterator.Adapters.{zip_first, zip_second}
+use Rattle.std.specs.Slice.Iter.{iter_rest}
 use Rattle.boardfile.proofs.RightBytes.{SoFar}
 use Rattle.boardfile.proofs.rights.held.Given as goal
 
-abbrev pub invariant-loop-x : goal.invariant-loop-x
-invariant-loop-x l = SoFar l.file l.at l.live l.k l.rest l.rights
-
-abbrev pub decreases-loop-x : goal.decreases-loop-x
-decreases-loop-x l = ones l.rest
+abbrev pub invariant-loop-role : goal.invariant-loop-role
+invariant-loop-role l = SoFar l.file l.start l.live (zip_first l.role-iterator).left (iter_rest (zip_second l.role-iterator)) l.rights
