@@ -1,9 +1,14 @@
 -- Results as answers: what a number says of one. Assumes nothing.
-use mathlib.Core.Path.{◌≡◌, refl}
+use mathlib.Core.Path.{◌≡◌, refl, sym, ap, ap₂, ◌∙◌}
+use mathlib.Core.Bool.{cond}
 use mathlib.Core.Logic.{◌≢◌}
+use Prim.Native.Nat.{ℕ}
 use native.Mathlib.Omega.{arith}
+use lib.Dec.{eqb}
 use Rattle.std.specs.Prelude.{Result, Ok, Err}
-use Rattle.board.specs.Answers.{plain, number_of, number, value_or, answer}
+use Rattle.board.specs.Answers.{Answer, plain, number_of, cause_number, cause_way, offender, number, value_or, answer}
+use Rattle.board.specs.declared.answers.Cause.{Cause}
+use Rattle.board.specs.declared.answers.Cause.TheVariants.{NotDerived, InTheWay, Itself}
 use Rattle.board.specs.declared.answers.Refusal.{Refusal}
 use Rattle.board.specs.declared.answers.Refusal.TheVariants.{Unsound, Malformed, Missing, Standing, Lacking, OutOfScope, Loops, Outside, Unmanaged, BadFrame, BadRecord, NoRoom, NotEntitled, WrongState, NotTheirs}
 
@@ -52,3 +57,51 @@ module _ {A : Type 0} where
   pub refused_value : (none : A) (a : Result A Refusal) → number a ≢ 0 → value_or none a ≡ none
   refused_value none (Ok v) n = absurd (n refl)
   refused_value none (Err r) n = refl
+
+-- ---- one result
+
+-- the cause of these numbers
+abbrev cause_at : ℕ → ℕ → Cause
+cause_at c w = cond (eqb c 1) NotDerived (cond (eqb c 2) (InTheWay w) Itself)
+
+cause_found : (c : Cause) → c ≡ cause_at (cause_number c) (cause_way c)
+cause_found NotDerived = refl
+cause_found (InTheWay x) = refl
+cause_found Itself = refl
+
+-- the refusal of a number that names these, found by trying all
+abbrev pick : ℕ → ℕ → Refusal → Refusal → Refusal
+pick n k r rest = cond (eqb n k) r rest
+
+abbrev refusal_at : ℕ → ℕ × ℕ × ℕ → Refusal
+refusal_at n p =
+    pick n 1 Unsound (pick n 2 Malformed (pick n 3 Missing (pick n 4 Standing (pick n 5 Lacking (pick n 6 (OutOfScope p.0 (cause_at p.1 p.2))
+    (pick n 7 Loops (pick n 8 Outside (pick n 9 Unmanaged (pick n 10 BadFrame (pick n 11 BadRecord (pick n 12 NoRoom (pick n 13 NotEntitled (pick n 14 WrongState NotTheirs)))))))))))))
+
+refusal_found : (r : Refusal) → r ≡ refusal_at (number_of r) (offender r)
+refusal_found Unsound = refl
+refusal_found Malformed = refl
+refusal_found Missing = refl
+refusal_found Standing = refl
+refusal_found Lacking = refl
+refusal_found (OutOfScope who cause) = ap (OutOfScope who) (cause_found cause)
+refusal_found Loops = refl
+refusal_found Outside = refl
+refusal_found Unmanaged = refl
+refusal_found BadFrame = refl
+refusal_found BadRecord = refl
+refusal_found NoRoom = refl
+refusal_found NotEntitled = refl
+refusal_found WrongState = refl
+refusal_found NotTheirs = refl
+
+-- a refusal is known by its number and whom it names,
+pub refusal_unique : (r s : Refusal) → number_of r ≡ number_of s → offender r ≡ offender s → r ≡ s
+refusal_unique r s e h = refusal_found r ∙ ap₂ refusal_at e h ∙ sym (refusal_found s)
+
+-- and a result by its answer and its value
+pub result_unique : {A : Type 0} (none : A) (a b : Result A Refusal) → answer a ≡ answer b → value_or none a ≡ value_or none b → a ≡ b
+result_unique none (Ok v) (Ok w) e h = ap Ok h
+result_unique none (Ok v) (Err s) e h = absurd (number_of_some s (sym (ap (λ (x : Answer). x.number) e)))
+result_unique none (Err r) (Ok w) e h = absurd (number_of_some r (ap (λ (x : Answer). x.number) e))
+result_unique none (Err r) (Err s) e h = ap Err (refusal_unique r s (λ k. (e k).number) (λ k. ((e k).who, (e k).cause, (e k).way)))

@@ -1,9 +1,12 @@
 -- A number names one command. Assumes nothing.
 use mathlib.Core.Path.{◌≡◌, refl, sym, ap, ◌∙◌}
 use mathlib.Core.Bool.{cond}
-use Prim.Native.Nat.{ℕ}
+use mathlib.Core.Logic.{◌⊎◌, ⊎_elim}
+use Prim.Native.Nat.{ℕ, ◌<◌}
+use native.Mathlib.Omega.{arith}
 use lib.Dec.{eqb}
-use Rattle.board.specs.Codes.{code_number}
+use Rattle.std.specs.Prelude.{Option, Some, None}
+use Rattle.board.specs.Codes.{code_number, IsCode}
 use Rattle.board.specs.declared.Code.{Code}
 use Rattle.board.specs.declared.Code.TheVariants.{AddRole, RemoveRole, AddEdge, RemoveEdge, ChangeEdge, GiveRights, TakeRights}
 
@@ -28,3 +31,19 @@ code_back TakeRights = refl
 
 pub one_code : {j k : Code} → code_number j ≡ code_number k → j ≡ k
 one_code {j} {k} e = sym (code_back j) ∙ ap code_at e ∙ code_back k
+
+code_in : (k : Code) (n : ℕ) → n ≡ code_number k → (n < 1) ⊎ (7 < n) → ⊥
+code_in AddRole n e = ⊎_elim (λ l. omega (arith, e, l)) (λ l. omega (arith, e, l))
+code_in RemoveRole n e = ⊎_elim (λ l. omega (arith, e, l)) (λ l. omega (arith, e, l))
+code_in AddEdge n e = ⊎_elim (λ l. omega (arith, e, l)) (λ l. omega (arith, e, l))
+code_in RemoveEdge n e = ⊎_elim (λ l. omega (arith, e, l)) (λ l. omega (arith, e, l))
+code_in ChangeEdge n e = ⊎_elim (λ l. omega (arith, e, l)) (λ l. omega (arith, e, l))
+code_in GiveRights n e = ⊎_elim (λ l. omega (arith, e, l)) (λ l. omega (arith, e, l))
+code_in TakeRights n e = ⊎_elim (λ l. omega (arith, e, l)) (λ l. omega (arith, e, l))
+
+-- what `named` promises leaves one answer
+pub code_unique : (n : ℕ) (j k : Option Code) → IsCode n j → IsCode n k → j ≡ k
+code_unique n (Some j) (Some k) d e = ap Some (one_code (sym d ∙ e))
+code_unique n (Some j) None d e = absurd (code_in j n d e)
+code_unique n None (Some k) d e = absurd (code_in k n e d)
+code_unique n None None d e = refl

@@ -1,5 +1,5 @@
 -- What is read off the values that a board keeps. Assumes nothing.
-use mathlib.Core.Path.{◌≡◌, refl, sym, ap, ◌∙◌}
+use mathlib.Core.Path.{◌≡◌, refl, sym, ap, ap₂, ◌∙◌}
 use mathlib.Core.Bool.{Bool, true, false, cond}
 use mathlib.Core.Logic.{◌≢◌}
 use mathlib.Core.List.{List}
@@ -63,41 +63,30 @@ nowhere manager (suc f) k y w g =
     ∙ nowhere manager f (suc k) 64 w (omega arith)
 
 module _ {manager : List ℕ} {r x n : ℕ} (inv : Climbing manager r x n) where
+  -- before 64 steps a look is left, and where role 0 isn't met it goes on to the manager
+  look : n < 64 → (f : ℕ) × (suc f + n ≡ 64) × (steps_up manager (suc f) n x ≡ steps_up manager 64 0 r)
+  look l = go inv.left inv.sum inv.same
+    where
+      go : (f : ℕ) → f + n ≡ 64 → steps_up manager f n x ≡ steps_up manager 64 0 r → (f : ℕ) × (suc f + n ≡ 64) × (steps_up manager (suc f) n x ≡ steps_up manager 64 0 r)
+      go zero s e = absurd (omega arith)
+      go (suc f) s e = (f, s, e)
+
+  onward : (f : ℕ) → x ≢ 0 → steps_up manager f (suc n) (manager_at manager x) ≡ steps_up manager (suc f) n x
+  unfolding steps_up
+  onward f z = sym (ap (λ (p : Bool). cond p n (steps_up manager f (suc n) (manager_at manager x))) (ne_eqb x 0 z))
+
   pub climb_arrived : n < 64 → x ≡ 0 → n ≡ steps_up manager 64 0 r
   unfolding steps_up
-  climb_arrived l z = go inv.left inv.sum inv.same
-    where
-      go : (f : ℕ) → f + n ≡ 64 → steps_up manager f n x ≡ steps_up manager 64 0 r → n ≡ steps_up manager 64 0 r
-      go zero s e = absurd (omega arith)
-      go (suc f) s e = sym (ap (λ (p : Bool). cond p n (steps_up manager f (suc n) (manager_at manager x))) (eq-eqb x 0 z)) ∙ e
+  climb_arrived l z = let k = look l in sym (ap (λ (p : Bool). cond p n (steps_up manager k.0 (suc n) (manager_at manager x))) (eq-eqb x 0 z)) ∙ k.2
 
   pub climb_turn : (m : ℕ) → n < 64 → x ≢ 0 → m ≡ manager_at manager x → Climbing manager r m (n + 1)
-  unfolding steps_up
-  climb_turn m l z q = go inv.left inv.sum inv.same
-    where
-      go : (f : ℕ) → f + n ≡ 64 → steps_up manager f n x ≡ steps_up manager 64 0 r → Climbing manager r m (n + 1)
-      go zero s e = absurd (omega arith)
-      go (suc f) s e =
-          let one : n + 1 ≡ suc n = omega arith in record {
-            left = f;
-            sum = omega arith;
-            same =
-                ap (λ (k : ℕ). steps_up manager f k m) one
-                ∙ ap (steps_up manager f (suc n)) q
-                ∙ sym (ap (λ (p : Bool). cond p n (steps_up manager f (suc n) (manager_at manager x))) (ne_eqb x 0 z))
-                ∙ e;
-          }
+  climb_turn m l z q =
+      let k = look l in
+      let one : n + 1 ≡ suc n = omega arith in
+      record { left = k.0; sum = omega (arith, k.1); same = ap₂ (steps_up manager k.0) one q ∙ onward k.0 z ∙ k.2 }
 
   pub climb_none : n < 64 → x ≢ 0 → length manager ≡ 64 → 64 ≤ manager_at manager x → 64 ≡ steps_up manager 64 0 r
-  unfolding steps_up
-  climb_none l z w g = go inv.left inv.sum inv.same
-    where
-      go : (f : ℕ) → f + n ≡ 64 → steps_up manager f n x ≡ steps_up manager 64 0 r → 64 ≡ steps_up manager 64 0 r
-      go zero s e = absurd (omega arith)
-      go (suc f) s e =
-          sym (nowhere manager f (suc n) (manager_at manager x) w g)
-          ∙ sym (ap (λ (p : Bool). cond p n (steps_up manager f (suc n) (manager_at manager x))) (ne_eqb x 0 z))
-          ∙ e
+  climb_none l z w g = let k = look l in sym (nowhere manager k.0 (suc n) (manager_at manager x) w g) ∙ onward k.0 z ∙ k.2
 
   pub climb_stopped : 64 ≤ n → 64 ≡ steps_up manager 64 0 r
   unfolding steps_up

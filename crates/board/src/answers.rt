@@ -25,28 +25,43 @@ impl From<Bar> for Cause {
     }
 }
 
-// In the order of their numbers, from 1 to 15. `OutOfScope` names the first role that offends.
+// In the order of their numbers, from 1 to 15.
 #[derive(Clone, Copy, PartialEq, Eq)]
 pub enum Refusal {
+    // the board is not sound
     Unsound,
+    // a number is out of its range
     Malformed,
+    // a role that must exist isn't live
     Missing,
+    // the role exists, or every part named of the edge stands already
     Standing,
+    // there is no such edge, or a part to be removed is missing
     Lacking,
+    // this role, the first that offends, is out of the actor's scope
     OutOfScope { who: u8, cause: Cause },
+    // some role would reach itself
     Loops,
+    // the new role would be outside the actor's strict scope
     Outside,
+    // some role would have no administrator
     Unmanaged,
+    // the frame of a file
     BadFrame,
+    // a record in a file
     BadRecord,
+    // what is to be written doesn't fit
     NoRoom,
+    // the actor may not use a right that the command needs or names
     NotEntitled,
+    // the job isn't in the state asked for
     WrongState,
+    // role or member may not claim or release the job
     NotTheirs,
 }
 
 impl Refusal {
-    // The number that C and the files of commands know it by.
+    // The number that the rules and C know it by.
     pub fn number(self) -> u8
         ensures { result ≡ number_of self }
     {

@@ -39,7 +39,8 @@ pub fn line_manager(kept: &Kept, r: u32) -> Option<u8>
     entry(&kept.manager, r)
 }
 
-// The steps from r to role 0 by line managers, or 64 where they don't lead there.
+// The steps from r to role 0 by line managers, or 64 where they don't lead there: the number that `StepsTrusting` has there. On a sound board
+// they do.
 pub fn steps(kept: &Kept, r: u32) -> usize
     ensures { result ≡ steps_up kept.now.manager 64 0 r }
 {

@@ -25,8 +25,8 @@ pub struct Scoped {
     pub bar: Option<Bar>,
 }
 
-// The refusals of a question about x and y, past the first.
-fn refused(live: u64, x: u32, y: u32) -> Result<(), Refusal>
+// Whether a question may name x and y: both are roles that live.
+fn both_live(live: u64, x: u32, y: u32) -> Result<(), Refusal>
     ensures { First (misnamed live x y) (number result) }
 {
     if x > 63 || y > 63 {
@@ -52,7 +52,7 @@ pub fn derives(b: &Board, x: u32, y: u32) -> Result<bool, Refusal>
 pub fn derives_trusting(b: &Board, x: u32, y: u32) -> Result<bool, Refusal>
     ensures { DerivesTrusting b.now.tables.live b.now.kept.derives x y (number result) (value_or false result) }
 {
-    refused(b.tables.live, x, y)?;
+    both_live(b.tables.live, x, y)?;
     Ok(kept::derives(&b.kept, x, y))
 }
 
@@ -70,7 +70,7 @@ pub fn scope(b: &Board, a: u32, r: u32) -> Result<Scoped, Refusal>
 pub fn scope_trusting(b: &Board, a: u32, r: u32) -> Result<Scoped, Refusal>
     ensures { ScopeTrusting b.now.tables.live b.now.kept.derives b.now.kept.derivers a r (number result) (said result) (count result) (cause result) (way result) }
 {
-    refused(b.tables.live, a, r)?;
+    both_live(b.tables.live, a, r)?;
     let all = kept::scope(&b.kept, a);
     let bar = bars(&b.kept, a as usize, r as usize);
     Ok(Scoped {
@@ -93,7 +93,7 @@ pub fn line_manager(b: &Board, r: u32) -> Result<Option<u8>, Refusal>
 pub fn line_manager_trusting(b: &Board, r: u32) -> Result<Option<u8>, Refusal>
     ensures { ManagerTrusting b.now.tables.live b.now.kept.manager r (number result) (value_or None result) }
 {
-    refused(b.tables.live, r, r)?;
+    both_live(b.tables.live, r, r)?;
     Ok(kept::line_manager(&b.kept, r))
 }
 
@@ -111,6 +111,6 @@ pub fn steps(b: &Board, r: u32) -> Result<usize, Refusal>
 pub fn steps_trusting(b: &Board, r: u32) -> Result<usize, Refusal>
     ensures { StepsTrusting b.now.tables.live b.now.kept.manager r (number result) (value_or 0 result) }
 {
-    refused(b.tables.live, r, r)?;
+    both_live(b.tables.live, r, r)?;
     Ok(kept::steps(&b.kept, r))
 }

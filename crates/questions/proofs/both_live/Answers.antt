@@ -2,8 +2,8 @@ use mathlib.Core.Path.{sym, ◌∙◌}
 use mathlib.Core.Logic.{inl, inr, ⊎_elim}
 use native.Mathlib.Omega.{arith}
 use Rattle.board.proofs.Asking.{asked_0, asked_2, asked_3}
-use Rattle.questions.proofs.refused.Goals as goal
-use Rattle.questions.proofs.refused.Goals.{then-not-has-via-then-not-has, then-not-has-via-else-not-has+then-not-has-2}
+use Rattle.questions.proofs.both_live.Goals as goal
+use Rattle.questions.proofs.both_live.Goals.{then-not-has-via-then-not-has, then-not-has-via-else-not-has+then-not-has-2}
 
 pub returns-then-x-gt63 : goal.returns-then-x-gt63
 returns-then-x-gt63 c = asked_2 _ _ _ (⊎_elim inl (λ g. inr g.1) c.then-x-gt63.either)
