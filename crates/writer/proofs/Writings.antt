@@ -187,17 +187,6 @@ module _ {t : Tables} {d out : List ℕ} {at x : ℕ} (room : length (edge_bytes
   pub edges_put_same : length out ≡ length d
   edges_put_same = put_length (edge_bytes (kind_at t) (x * 64) 0) d out inv.put (omega (arith, edge_mono (x * 64) 4096 0 (kind_at t) (omega (arith, inv.within))))
 
-  pub edges_put_end : 64 ≤ x → Put (edge_bytes (kind_at t) 4096 0) d out
-  edges_put_end l =
-      let w : x * 64 ≡ 4096 = omega (arith, inv.within) in
-      subst (λ (n : ℕ). Put (edge_bytes (kind_at t) n 0) d out) w inv.put
-
-  pub edges_put_small : at ≤ 12288
-  edges_put_small = omega (arith, inv.count, inv.within, edge_few (x * 64) 0 (kind_at t))
-
-  pub edges_put_few : at ≤ length out
-  edges_put_few = omega (arith, inv.count, edges_put_same, edge_mono (x * 64) 4096 0 (kind_at t) (omega (arith, inv.within)))
-
   module _ (l : x < 64) where
     longer : edge_bytes (kind_at t) ((x + 1) * 64) 0 ≡ edge_bytes (kind_at t) (x * 64) 0 ++ row_bytes x (row t.i x) (row t.a x)
     longer =
