@@ -1,6 +1,8 @@
 -- The parts of an answer put together, and that each fits its part. Assumes nothing.
-use mathlib.Core.Path.{◌≡◌, refl, ap, ap₂, ◌∙◌, subst}
-use mathlib.Core.Bool.{Bool}
+use mathlib.Core.Path.{◌≡◌, refl, ap, ◌∙◌, subst}
+use mathlib.Core.Bool.{Bool, true, false}
+use mir.Val.{bool_byte}
+use Rattle.sets.specs.Sets.{num}
 use mathlib.Core.Logic.{dite}
 use mathlib.Core.List.{List}
 use Prim.Native.Nat.{ℕ, ◌≤◌, ◌<◌}
@@ -17,7 +19,7 @@ use Rattle.answers.specs.Packing.{answer}
 use Rattle.writer.specs.Writing.{write_refusals, WriteAnswer}
 use Rattle.boardfile.specs.Answers.{ScopeOnFile, StepsOnFile}
 use Rattle.boardfile.proofs.Theorems.{sound_length}
-use Rattle.host.specs.Answers.{place_of}
+use Rattle.host.specs.Answers.{place_of, place_of_writing}
 
 -- a scope has at most 64 roles: they are live
 pub count_small : {f : List ℕ} (a r : ℕ) {n count cause way : ℕ} {said : Bool} → ScopeOnFile f a r n said count cause way → count ≤ 64
@@ -26,13 +28,13 @@ count_small a r {n} {count} s = dite (ℕ_discrete n 0)
     let w = s.done z in
     let k = w.2.0.1 in
     let sound = (w.1.done refl).1.sound in
-    omega (arith, k.2, ones_mono k.0 w.0.live (λ x m. ((k.1 x).0 m).derives.to), ones-le 64 w.0.live sound.shaped.live_fits))
+    omega (arith, k.2, ones_mono k.0 w.0.tables.live (λ x m. ((k.1 x).0 m).derives.to), ones-le 64 w.0.tables.live sound.shaped.live_fits))
     (λ z. let e : count ≡ 0 = ap (λ (v : Bool × ℕ × ℕ × ℕ). v.1) (s.refused z) in omega arith)
 
 -- and so a climb has less than 64 steps
 pub steps_small : {f : List ℕ} (r : ℕ) {n steps : ℕ} → StepsOnFile f r n steps → steps < 64
 steps_small r {n} s = dite (ℕ_discrete n 0)
-    (λ z. let w = s.done z in let sound = (w.1.done refl).1.sound in omega (arith, climb_short sound w.2, ones-le 64 w.0.live sound.shaped.live_fits))
+    (λ z. let w = s.done z in let sound = (w.1.done refl).1.sound in omega (arith, climb_short sound w.2, ones-le 64 w.0.tables.live sound.shaped.live_fits))
     (λ z. omega (arith, s.refused z))
 
 -- what is written is the file of a sound board, and no longer than any other
@@ -44,6 +46,16 @@ write_small {b} {entry} {at = at} {n = n} {len} w = dite (ℕ_discrete n 0)
     omega (arith, long))
     (λ z. omega (arith, (w.refused z).0))
 
--- an answer to a question, from its parts as they were worked out
-pub packs : (n p v : ℕ) {r w : ℕ} → r ≡ answer n p v → p ≡ place_of n → v ≡ w → r ≡ answer n (place_of n) w
-packs n p v e g h = e ∙ ap₂ (λ (k u : ℕ). answer n k u) g h
+-- what is done blames the question, and a writing that is done too
+pub answered : (v w : ℕ) {r : ℕ} → r ≡ answer 0 0 v → v ≡ w → r ≡ answer 0 (place_of 0) w
+unfolding place_of
+answered v w e f = e ∙ ap (λ (u : ℕ). answer 0 0 u) f
+
+pub written : (v : ℕ) {r : ℕ} → r ≡ answer 0 0 v → r ≡ answer 0 (place_of_writing 0) v
+unfolding place_of_writing
+written v e = e
+
+-- a yes is 1
+pub yes_is_1 : (yes : Bool) → bool_byte yes ≡ num yes
+yes_is_1 true = refl
+yes_is_1 false = refl

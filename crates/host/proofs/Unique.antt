@@ -8,13 +8,13 @@ use native.Mathlib.Decide.{ℕ_discrete}
 use Rattle.sets.specs.Sets.{num}
 use Rattle.board.specs.declared.Board.{Board}
 use Rattle.board.specs.declared.Command.{Command}
-use Rattle.board.specs.declared.answers.Answer.{Answer}
+use Rattle.board.specs.Answers.{Answer}
 use Rattle.commands.proofs.Unique.{decided_unique}
 use Rattle.answers.specs.Packing.{answer, reason, answer_of}
 use Rattle.jobs.specs.Lists.{Jobs}
 use Rattle.jobs.specs.Histories.{Event.claim, Event.release}
-use Rattle.jobs.specs.declared.State.{State}
-use Rattle.boardfile.specs.declared.change.Place.{Place}
+use Rattle.std.specs.Prelude.{Option}
+use Rattle.boardfile.specs.Answers.{Place}
 use Rattle.host.specs.Jobs.{StartPacked, ClaimPacked, ReleasePacked, one_if_held, member_or0, JobPacked}
 use Rattle.host.specs.Answers.{place_number, place_of, place_of_writing, Checked, DerivesPacked, ScopePacked, manager_or64, ManagerPacked, StepsPacked, StretchPacked, Commanded, Applied, RunPacked, ReadPacked, WritePacked}
 use Rattle.writer.proofs.Unique as W
@@ -94,4 +94,4 @@ module _ (b : Board) (jobs : Jobs) (j m role : ℕ) {x y : Jobs} {r s : ℕ} whe
 pub job_unique : (jobs : Jobs) (j : ℕ) {r s : ℕ} → JobPacked jobs j r → JobPacked jobs j s → r ≡ s
 job_unique jobs j p q =
     let k = J.look_unique jobs j p.1.1 q.1.1 in
-    p.1.2 ∙ ap₂ (λ (n : ℕ) (z : State). answer n 0 (one_if_held z) + 4294967296 * member_or0 z) k.0 k.1 ∙ sym q.1.2
+    p.1.2 ∙ ap₂ (λ (n : ℕ) (z : Option ℕ). answer n 0 (one_if_held z) + 4294967296 * member_or0 z) k.0 k.1 ∙ sym q.1.2

@@ -1,21 +1,18 @@
 -- What the functions for programs in C answer: one number that holds the refusal number, the place where it arose, and a value, and by
 -- request 3 who offends and why. These parts are the answers of `board`, `runs` and `boardfile`; `runs` says how
 -- they are packed.
-use Rattle.std.specs.Prelude.{◌≡◌, Bool, cond, ◌||◌, List, ℕ, ◌+◌, ◌*◌, eqb}
+use Rattle.std.specs.Prelude.{◌≡◌, Bool, cond, ◌||◌, List, ℕ, ◌+◌, ◌*◌, eqb, Option, Some, None}
 use Rattle.sets.specs.Sets.{num}
 use Rattle.hierarchy.specs.First.{First}
 use Rattle.board.specs.declared.Board.{Board}
 use Rattle.board.specs.declared.Command.{Command}
-use Rattle.board.specs.declared.answers.Answer.{Answer}
-use Rattle.board.specs.declared.kept.Manager.{Manager}
-use Rattle.board.specs.declared.kept.Manager.TheVariants.{Role, Nobody}
+use Rattle.board.specs.Answers.{Answer}
 use Rattle.commands.specs.Commands.{Decided}
 use Rattle.answers.specs.Packing.{answer, reason, answer_of}
 use Rattle.runs.specs.Runs.{RunAnswer}
 use Rattle.writer.specs.Writing.{WriteAnswer}
-use Rattle.boardfile.specs.Answers.{refusals, ReadInto, DerivesOnFile, ScopeOnFile, ManagerOnFile, StepsOnFile, BoundsAnswer, CommandAnswer}
-use Rattle.boardfile.specs.declared.change.Place.{Place}
-use Rattle.boardfile.specs.declared.change.Place.TheVariants.{Asked, File, Writing}
+use Rattle.boardfile.specs.Answers.{refusals, ReadInto, DerivesOnFile, ScopeOnFile, ManagerOnFile, StepsOnFile, BoundsAnswer, CommandAnswer, Place}
+use Rattle.boardfile.specs.Answers.{Place.Asked, Place.File, Place.Writing}
 
 -- The places: 0 is the command or the question, and every answer that is done; 1 the file handed in; 2 the writing.
 abbrev pub place_number : Place → ℕ
@@ -48,12 +45,12 @@ ScopePacked f a x r =
     × (r ≡ answer number (place_of number) (num said + 2 * count) + reason 0 cause way)))))
 
 -- the manager's role, and 64 for none
-abbrev pub manager_or64 : Manager → ℕ
-manager_or64 (Role m) = m
-manager_or64 Nobody = 64
+abbrev pub manager_or64 : Option ℕ → ℕ
+manager_or64 (Some m) = m
+manager_or64 None = 64
 
 abbrev pub ManagerPacked : List ℕ → ℕ → ℕ → Type 0
-ManagerPacked f x r = (number : ℕ) × ((m : Manager) × ManagerOnFile f x number m × (r ≡ answer number (place_of number) (manager_or64 m)))
+ManagerPacked f x r = (number : ℕ) × ((m : Option ℕ) × ManagerOnFile f x number m × (r ≡ answer number (place_of number) (manager_or64 m)))
 
 abbrev pub StepsPacked : List ℕ → ℕ → ℕ → Type 0
 StepsPacked f x r = (number : ℕ) × ((steps : ℕ) × StepsOnFile f x number steps × (r ≡ answer number (place_of number) steps))

@@ -1,12 +1,28 @@
 // The job list for programs in C. `host/jobs.h` has these functions on the rows of a list and the fields of a board, and those on its
-// structs on top of them.
+// structs on top of them: so both come here row by row.
 ghost use Rattle.std.specs.Prelude.{◌≡◌};
+ghost use Rattle.board.specs.Answers.{number};
 ghost use Rattle.board.specs.Boards.{board_of};
+ghost use Rattle.answers.specs.Packing.{answer};
 ghost use Rattle.jobs.specs.Lists.{jobs_of};
-ghost use Rattle.host.specs.Jobs.{StartPacked, ClaimPacked, ReleasePacked, JobPacked, one_if_held, member_or0};
+ghost use Rattle.host.specs.Jobs.{StartPacked, ClaimPacked, ReleasePacked, JobPacked};
 
 use answers::packed;
-use jobs::{State, claim_of, look, release_of, start};
+use board::Board;
+use board::answers::Refusal;
+use hierarchy::tables::Tables;
+use hierarchy::working::Kept;
+use jobs::{claim, look, release, start};
+
+// The answer of a change to a list: the number alone.
+fn settled(q: Result<(), Refusal>) -> u64
+    ensures { result ≡ answer (number q) 0 0 }
+{
+    match q {
+        Ok(()) => packed(0, 0, 0),
+        Err(refusal) => packed(refusal.number(), 0, 0),
+    }
+}
 
 // A new list, all open.
 #[unsafe(no_mangle)]
@@ -18,7 +34,30 @@ pub extern "C" fn jobs_start_rows(
 ) -> u64
     ensures { StartPacked listed.now (jobs_of roles.new marks.new members.new) result }
 {
-    packed(start(listed, roles, marks, members), 0, 0)
+    settled(start(listed, roles, marks, members))
+}
+
+// The board of these fields.
+fn board_of(
+    live: u64,
+    i: &[u64; 64],
+    a: &[u64; 64],
+    derives: &[u64; 64],
+    derivers: &[u64; 64],
+    manager: &[u8; 64],
+    rights: &[u8; 64],
+) -> Board
+    ensures { result ≡ board_of live i.now a.now derives.now derivers.now manager.now rights.now }
+{
+    Board {
+        tables: Tables { live, i: *i, a: *a },
+        kept: Kept {
+            derives: *derives,
+            derivers: *derivers,
+            manager: *manager,
+        },
+        rights: *rights,
+    }
 }
 
 // The member takes the job.
@@ -40,10 +79,8 @@ pub extern "C" fn jobs_claim_rows<'t>(
 ) -> u64
     ensures { ClaimPacked (board_of live i.now a.now derives.now derivers.now manager.now rights.now) (jobs_of roles.now marks.old members.old) job member role (jobs_of roles.now marks.new members.new) result }
 {
-    let number = claim_of(
-        live, i, a, derives, derivers, manager, rights, roles, marks, members, job, member, role,
-    );
-    packed(number, 0, 0)
+    let b = board_of(live, i, a, derives, derivers, manager, rights);
+    settled(claim(&b, roles, marks, members, job, member, role))
 }
 
 // The job is open again.
@@ -65,33 +102,11 @@ pub extern "C" fn jobs_release_rows<'t>(
 ) -> u64
     ensures { ReleasePacked (board_of live i.now a.now derives.now derivers.now manager.now rights.now) (jobs_of roles.now marks.old members.old) job member role (jobs_of roles.now marks.new members.new) result }
 {
-    let number = release_of(
-        live, i, a, derives, derivers, manager, rights, roles, marks, members, job, member, role,
-    );
-    packed(number, 0, 0)
+    let b = board_of(live, i, a, derives, derivers, manager, rights);
+    settled(release(&b, roles, marks, members, job, member, role))
 }
 
-// 1 where the job is held.
-fn one_if_held(state: State) -> u16
-    ensures { result ≡ one_if_held state }
-{
-    match state {
-        State::IsOpen => 0,
-        State::HeldBy(_) => 1,
-    }
-}
-
-// Who holds it; 0 where nobody does.
-fn member_or_0(state: State) -> u32
-    ensures { result ≡ member_or0 state }
-{
-    match state {
-        State::IsOpen => 0,
-        State::HeldBy(m) => m,
-    }
-}
-
-// Whether a job is held, and by whom.
+// Whether a job is held, and by whom; beside a refusal it isn't.
 #[unsafe(no_mangle)]
 pub extern "C" fn jobs_job_rows<'t>(
     roles: &'t [u8; 1024],
@@ -101,7 +116,11 @@ pub extern "C" fn jobs_job_rows<'t>(
 ) -> u64
     ensures { JobPacked (jobs_of roles.now marks.now members.now) job result }
 {
-    let q = look(roles, marks, members, job);
-    let state = q.state;
-    packed(q.number, 0, one_if_held(state)) + 4294967296 * (member_or_0(state) as u64)
+    match look(roles, marks, members, job) {
+        Ok(holder) => {
+            let held = u16::from(holder.is_some());
+            packed(0, 0, held) + 4294967296 * u64::from(holder.unwrap_or(0))
+        }
+        Err(refusal) => packed(refusal.number(), 0, 0),
+    }
 }

@@ -1,85 +1,101 @@
-// The parts of an answer as numbers: where it arose, and its value.
-ghost use Rattle.std.specs.Prelude.{◌≡◌, ◌+◌, ◌*◌, ◌≤◌};
+// The parts of an answer as numbers: where it arose, its value, and why a role is not in a scope.
+ghost use Rattle.std.specs.Prelude.{◌≡◌, is_none, ◌+◌, ◌*◌, ◌≤◌};
 ghost use Rattle.sets.specs.Sets.{num};
-ghost use Rattle.answers.specs.Packing.{answer};
-ghost use Rattle.host.specs.Answers.{place_of, place_of_writing, place_number, manager_or64};
+ghost use Rattle.scopes.specs.Bars.{bar_cause, bar_way};
+ghost use Rattle.board.specs.Answers.{number_of};
+ghost use Rattle.answers.specs.Packing.{answer, reason};
+ghost use Rattle.host.specs.Answers.{place_of, place_of_writing, manager_or64};
 
-use answers::packed;
-use board::kept::Manager;
-use boardfile::change::Place;
+use answers::{blame, packed};
+use board::answers::{Cause, Refusal};
+use questions::Scoped;
+use scopes::Bar;
 
-// Where an answer arose: the command or the question, the file, the writing.
-const ASKED: u8 = 0;
+// Where an answer arose, as C knows it: the command or the question, which is also where all that is done arose; the file; the writing.
+pub(crate) const ASKED: u8 = 0;
 
-const FILE: u8 = 1;
+pub(crate) const FILE: u8 = 1;
 
-const WRITING: u8 = 2;
+pub(crate) const WRITING: u8 = 2;
 
 // what stands for no line manager
 const NONE: u16 = 64;
 
-// Where the number of a question about a file arose: its own refusals are 2 and 3, all others are the file's.
-pub(crate) fn place_of(number: u8) -> u8
-    ensures { result ≡ place_of number }
+// What is done, with its value.
+pub(crate) fn done(value: u16) -> u64
+    ensures { result ≡ answer 0 0 value }
 {
-    if number == 0 {
-        return ASKED;
+    packed(0, ASKED, value)
+}
+
+// A question about a file that is refused, with the value that says none.
+pub(crate) fn refused_with(refusal: Refusal, none: u16) -> u64
+    ensures { let n = number_of refusal in result ≡ answer n (place_of n) none }
+{
+    packed(refusal.number(), place_of(refusal), none)
+}
+
+// The same where that value is 0.
+pub(crate) fn refused(refusal: Refusal) -> u64
+    ensures { let n = number_of refusal in result ≡ answer n (place_of n) 0 }
+{
+    refused_with(refusal, 0)
+}
+
+// A writing that is refused.
+pub(crate) fn unwritten(refusal: Refusal) -> u64
+    ensures { let n = number_of refusal in result ≡ answer n (place_of_writing n) 0 }
+{
+    packed(refusal.number(), place_of_writing(refusal), 0)
+}
+
+// Where the refusal of a question about a file arose: its own are a number that is no role and a role that isn't there, all others are
+// the file's.
+#[tactic(auto, unfolding(crate::specs::Answers::place_of))]
+fn place_of(refusal: Refusal) -> u8
+    ensures { result ≡ place_of (number_of refusal) }
+{
+    match refusal {
+        Refusal::Malformed | Refusal::Missing => ASKED,
+        _ => FILE,
     }
-    if number == 2 {
-        return ASKED;
-    }
-    if number == 3 {
-        return ASKED;
-    }
-    FILE
 }
 
-// Where the number of a writing arose: want of room, 12, is its own; a board that isn't sound is refused as a command on it is.
-pub(crate) fn place_of_writing(number: u8) -> u8
-    ensures { result ≡ place_of_writing number }
+// Where the refusal of a writing arose: want of room is its own; a board that isn't sound is refused as a command on it is.
+#[tactic(auto, unfolding(crate::specs::Answers::place_of_writing))]
+fn place_of_writing(refusal: Refusal) -> u8
+    ensures { result ≡ place_of_writing (number_of refusal) }
 {
-    if number == 12 { WRITING } else { ASKED }
-}
-
-// The answer of a run, which has a number and no value.
-pub(crate) fn run_packed(number: u8) -> u64
-    ensures { result ≡ answer number (place_of_writing number) 0 }
-{
-    packed(number, place_of_writing(number), 0)
-}
-
-pub(crate) fn place_number(place: Place) -> u8
-    ensures { result ≡ place_number place }
-{
-    match place {
-        Place::Asked => ASKED,
-        Place::File => FILE,
-        Place::Writing => WRITING,
+    match refusal {
+        Refusal::NoRoom => WRITING,
+        _ => ASKED,
     }
 }
 
-pub(crate) fn one_if(yes: bool) -> u16
-    ensures { result ≡ num yes }
+// The answer on a role, and the count of all in the scope.
+pub(crate) fn scope_value(scoped: Scoped) -> u16
+    requires { scoped.count ≤ 64 }
+    ensures { result ≡ num (is_none scoped.bar) + 2 * scoped.count }
 {
-    if yes { 1 } else { 0 }
+    let twice = 2 * (scoped.count as u16);
+    u16::from(scoped.bar.is_none()) + twice
 }
 
-pub(crate) fn scope_value(yes: bool, count: u32) -> u16
-    requires { count ≤ 64 }
-    ensures { result ≡ num yes + 2 * count }
+// What bars a role from a scope. A scope names no offender.
+pub(crate) fn bar_reason(bar: Option<Bar>) -> u64
+    ensures { result ≡ reason 0 (bar_cause bar) (bar_way bar) }
 {
-    let twice = 2 * (count as u16);
-    if yes {
-        return 1 + twice;
+    match bar {
+        Some(bar) => blame(0, Cause::from(bar)),
+        None => 0,
     }
-    twice
 }
 
-pub(crate) fn manager_value(m: Manager) -> u16
-    ensures { result ≡ manager_or64 m }
+pub(crate) fn manager_value(manager: Option<u8>) -> u16
+    ensures { result ≡ manager_or64 manager }
 {
-    match m {
-        Manager::Role(x) => x as u16,
-        Manager::Nobody => NONE,
+    match manager {
+        Some(role) => u16::from(role),
+        None => NONE,
     }
 }

@@ -9,6 +9,7 @@ use native.Mathlib.Decide.{ℕ_discrete}
 use native.Mathlib.Omega.{arith}
 use lib.Count.{ones}
 use lib.ListN.{length, take, drop, replicate}
+use Rattle.std.specs.Prelude.{Option}
 use Rattle.sets.specs.Sets.{◌is_in◌}
 use Rattle.hierarchy.specs.Tables.{Tables, row, Live}
 use Rattle.hierarchy.specs.Words.{Derives, Scope, OutOfScope, LineManager, Sound, Climb, met, Distinct}
@@ -19,11 +20,9 @@ use Rattle.hierarchy.proofs.FirstLaws.{first_unique, hit, pass}
 use Rattle.hierarchy.proofs.Theorems.{no_manager, one_manager, one_climb, one_way, climb_distinct, climb_short}
 use Rattle.board.specs.Boards.{tables_of, board_of, founding_board, KeepsRight, SoundBoard}
 use Rattle.board.specs.Rights.{founding_rights, RightsFit}
-use Rattle.board.specs.Answers.{plain}
+use Rattle.board.specs.Answers.{Answer, plain}
 use Rattle.board.specs.declared.Board.{Board}
 use Rattle.board.specs.declared.Command.{Command}
-use Rattle.board.specs.declared.answers.Answer.{Answer}
-use Rattle.board.specs.declared.kept.Manager.{Manager}
 use Rattle.board.proofs.Founding.{founding_sound}
 use Rattle.board.proofs.Rules.{stable, first_done, first_without, first_next}
 use Rattle.board.proofs.Unique.{board_stable, one_board}
@@ -52,10 +51,9 @@ use Rattle.frames.specs.Frames.{EndsHH, EndsHR}
 use Rattle.writer.specs.Files.{file_of}
 use Rattle.writer.specs.Writing.{Placed, Unplaced, write_refusals, WriteAnswer}
 use Rattle.writer.proofs.Unique.{write_unique}
-use Rattle.boardfile.specs.Answers.{refusals, ReadAnswer, ReadInto, DerivesOnFile, ScopeOnFile, ManagerOnFile, StepsOnFile, CommandAnswer}
+use Rattle.boardfile.specs.Answers.{refusals, ReadAnswer, ReadInto, DerivesOnFile, ScopeOnFile, ManagerOnFile, StepsOnFile, Place, CommandAnswer}
 use Rattle.boardfile.specs.Answers.{CommandAnswer.unread, CommandAnswer.refused, CommandAnswer.no_room, CommandAnswer.done}
 use Rattle.boardfile.specs.Stretches.{StretchOf}
-use Rattle.boardfile.specs.declared.change.Place.{Place}
 use Rattle.boardfile.proofs.Unique.{read_unique, derives_file_unique, scope_file_unique, manager_file_unique, steps_file_unique, stretch_unique, command_unique}
 use Rattle.boardfile.proofs.Theorems.{accepted, reads_back, sound_reads, written_file, plain_where, rights_where}
 use Rattle.theorems.specs.OnFiles.{Refused, Chain}
@@ -170,7 +168,7 @@ pub run_on_unsound : {b last : Board} {commands : List Command} {answers : List 
 run_on_unsound = unsound_run
 
 -- a board that keeps a wrong value, or rights that it may not have, gives 1: from a command, from a question, and from the writer
-module _ {b : Board} (wrong : KeepsRight b × RightsFit b.live b.rights → ⊥) where
+module _ {b : Board} (wrong : KeepsRight b × RightsFit b.tables.live b.rights → ⊥) where
   unsound : SoundBoard b → ⊥
   unsound s = wrong (s.right, s.rightful)
 
@@ -273,7 +271,7 @@ rights_are_left d = (d.done refl).rights_are
 
 -- commands 6 and 7 leave all but the rights, the very tables among it
 pub only_rights : {b next : Board} {c : Command} {answer : Answer} → Decided b c answer next → 5 < c.code
-    → next ≡ board_of b.live b.i b.a b.derives b.derivers b.manager next.rights
+    → next ≡ board_of b.tables.live b.tables.i b.tables.a b.kept.derives b.kept.derivers b.kept.manager next.rights
 only_rights {b} {next} {c} {answer} d h = dite (ℕ_discrete answer.number 0)
     (λ z.
     let passed = first_done (command_refusals b c) refl (subst (First (command_refusals b c)) z d.numbered) in
@@ -281,7 +279,7 @@ only_rights {b} {next} {c} {answer} d h = dite (ℕ_discrete answer.number 0)
     board_stable next _ (λ k. passed.0 (λ s.
     let same : tables_of next ≡ tables_of b = made.tables_are ∙ tables_stay (tables_of b) c s.sound.shaped h in
     k (one_board made.fit record { sound = s.sound; right = s.right; rightful = subst (λ (t : Tables). RightsFit t.live next.rights) same made.fit.rightful } same refl))))
-    (λ n. d.refused n ∙ ap (λ (h : List ℕ). board_of b.live b.i b.a b.derives b.derivers b.manager h) (ap (λ (x : Board). x.rights) (sym (d.refused n))))
+    (λ n. d.refused n ∙ ap (λ (h : List ℕ). board_of b.tables.live b.tables.i b.tables.a b.kept.derives b.kept.derivers b.kept.manager h) (ap (λ (x : Board). x.rights) (sym (d.refused n))))
 
 pub tables_left : {b next : Board} {c : Command} {answer : Answer} → Decided b c answer next → 5 < c.code → tables_of next ≡ tables_of b
 tables_left d h = ap tables_of (only_rights d h)
@@ -310,7 +308,7 @@ module _ (b : Board) where
   pub one_scope : (a r : ℕ) {m n j k c d v w : ℕ} {p q : Bool} → ScopeAnswer b a r m p j c v → ScopeAnswer b a r n q k d w → (m ≡ n) × ◌≡◌ {A = Bool × ℕ × ℕ × ℕ} (p, j, c, v) (q, k, d, w)
   one_scope = scope_unique b
 
-  pub one_line_manager : (r : ℕ) {m n : ℕ} {x y : Manager} → ManagerAnswer b r m x → ManagerAnswer b r n y → (m ≡ n) × (x ≡ y)
+  pub one_line_manager : (r : ℕ) {m n : ℕ} {x y : Option ℕ} → ManagerAnswer b r m x → ManagerAnswer b r n y → (m ≡ n) × (x ≡ y)
   one_line_manager = manager_answer_unique b
 
   pub one_count_of_steps : (r : ℕ) {m n j k : ℕ} → StepsAnswer b r m j → StepsAnswer b r n k → (m ≡ n) × (j ≡ k)
@@ -324,13 +322,13 @@ module _ (f : List ℕ) where
   pub one_scope_on_file : (a r : ℕ) {m n j k c d v w : ℕ} {p q : Bool} → ScopeOnFile f a r m p j c v → ScopeOnFile f a r n q k d w → (m ≡ n) × ◌≡◌ {A = Bool × ℕ × ℕ × ℕ} (p, j, c, v) (q, k, d, w)
   one_scope_on_file = scope_file_unique f
 
-  pub one_line_manager_on_file : (r : ℕ) {m n : ℕ} {x y : Manager} → ManagerOnFile f r m x → ManagerOnFile f r n y → (m ≡ n) × (x ≡ y)
+  pub one_line_manager_on_file : (r : ℕ) {m n : ℕ} {x y : Option ℕ} → ManagerOnFile f r m x → ManagerOnFile f r n y → (m ≡ n) × (x ≡ y)
   one_line_manager_on_file = manager_file_unique f
 
   pub one_count_of_steps_on_file : (r : ℕ) {m n j k : ℕ} → StepsOnFile f r m j → StepsOnFile f r n k → (m ≡ n) × (j ≡ k)
   one_count_of_steps_on_file = steps_file_unique f
 
-  pub one_stretch : (file_at : ℕ × ℕ) (role : ℕ) {x y : List ℕ} {p q : ℕ × ℕ} → StretchOf f file_at role x p → StretchOf f file_at role y q → (x ≡ y) × (p ≡ q)
+  pub one_stretch : (file_at : ℕ × ℕ) (role : ℕ) {m n : ℕ} {x y : List ℕ} {p q : ℕ × ℕ} → StretchOf f file_at role m x p → StretchOf f file_at role n y q → (m ≡ n) × (x ≡ y) × (p ≡ q)
   one_stretch = stretch_unique f
 
 pub one_file_command : {f : List ℕ} {c : Command} {entry exit other : List ℕ} {p q : Place} {m n : Answer} {k l : ℕ}
@@ -411,7 +409,7 @@ module _ {b : Board} (reached : Reached b) where
   exactly_one_way = one_way (reached_sound reached).sound
 
   -- within (live roles - 1) steps,
-  pub within_live_roles : {r n : ℕ} → Climb (tables_of b) r n → n + 1 ≤ ones b.live
+  pub within_live_roles : {r n : ℕ} → Climb (tables_of b) r n → n + 1 ≤ ones b.tables.live
   within_live_roles = climb_short (reached_sound reached).sound
 
   -- and meets no role twice
@@ -420,21 +418,21 @@ module _ {b : Board} (reached : Reached b) where
 
   -- ---- request 1: and what it keeps is document 01's derived relation, both ways round, and its line managers
 
-  pub kept_derives : (x y : ℕ) → (y is_in row b.derives x) ↔ Derives (tables_of b) x y
+  pub kept_derives : (x y : ℕ) → (y is_in row b.kept.derives x) ↔ Derives (tables_of b) x y
   kept_derives = derives_kept (reached_sound reached)
 
-  pub kept_derivers : (x y : ℕ) → (x is_in row b.derivers y) ↔ Derives (tables_of b) x y
+  pub kept_derivers : (x y : ℕ) → (x is_in row b.kept.derivers y) ↔ Derives (tables_of b) x y
   kept_derivers = derivers_kept (reached_sound reached)
 
-  pub kept_manager : (r : ℕ) → ManagerIs (tables_of b) r (manager_at b.manager r)
+  pub kept_manager : (r : ℕ) → ManagerIs (tables_of b) r (manager_at b.kept.manager r)
   kept_manager = manager_kept (reached_sound reached)
 
   -- so scope, why not, and steps can be read off it
-  pub kept_scope : (a r : ℕ) → ScopeBy b.derives b.derivers a r ↔ Scope (tables_of b) a r
+  pub kept_scope : (a r : ℕ) → ScopeBy b.kept.derives b.kept.derivers a r ↔ Scope (tables_of b) a r
   kept_scope = scope_kept (reached_sound reached)
 
-  pub kept_reason : (a r cause way : ℕ) → OutOfScopeBy b.derives b.derivers a r cause way ↔ OutOfScope (tables_of b) a r cause way
+  pub kept_reason : (a r cause way : ℕ) → OutOfScopeBy b.kept.derives b.kept.derivers a r cause way ↔ OutOfScope (tables_of b) a r cause way
   kept_reason a r cause way = out_by (reached_sound reached).right.views
 
-  pub kept_steps : (r : ℕ) → Live (tables_of b) r → Climb (tables_of b) r (steps_up b.manager 64 0 r)
+  pub kept_steps : (r : ℕ) → Live (tables_of b) r → Climb (tables_of b) r (steps_up b.kept.manager 64 0 r)
   kept_steps = steps_kept (reached_sound reached)

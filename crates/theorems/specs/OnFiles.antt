@@ -3,10 +3,9 @@ use Rattle.std.specs.Prelude.{◌≡◌, ◌⊎◌, List, [], ◌∷◌, ℕ, ta
 use Rattle.hierarchy.specs.First.{Among}
 use Rattle.board.specs.declared.Board.{Board}
 use Rattle.board.specs.declared.Command.{Command}
-use Rattle.board.specs.declared.answers.Answer.{Answer}
+use Rattle.board.specs.Answers.{Answer}
 use Rattle.commands.specs.Commands.{refusals as command_refusals}
-use Rattle.boardfile.specs.Answers.{refusals, ReadAnswer, CommandAnswer}
-use Rattle.boardfile.specs.declared.change.Place.{Place}
+use Rattle.boardfile.specs.Answers.{refusals, ReadAnswer, Place, CommandAnswer}
 
 -- A command on a file is refused with a number of the file's table, of the command's on the board in it, or with 12 for want of room.
 abbrev pub Refused : List ℕ → Command → ℕ → Type 0

@@ -4,7 +4,7 @@ use Rattle.std.specs.Prelude.{List, ℕ}
 use Rattle.board.specs.Boards.{founding_board}
 use Rattle.board.specs.declared.Board.{Board}
 use Rattle.board.specs.declared.Command.{Command}
-use Rattle.board.specs.declared.answers.Answer.{Answer}
+use Rattle.board.specs.Answers.{Answer}
 use Rattle.commands.specs.Commands.{Decided}
 use Rattle.boardfile.specs.Answers.{ReadAnswer}
 

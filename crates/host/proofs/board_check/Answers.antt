@@ -1,6 +1,6 @@
 use mathlib.Core.Path.{refl}
-use Rattle.host.proofs.Bounds.{packs}
+use Rattle.host.proofs.Bounds.{answered}
 use Rattle.host.proofs.board_check.Goals as goal
 
-pub returns : goal.returns
-returns c = (c.check-number.result, c.check-number.ensures, packs _ _ 0 c.packed.ensures c.place_of.ensures refl)
+pub returns-in-Ok : goal.returns-in-Ok
+returns-in-Ok c = (0, c.in-Ok.ensures, answered 0 0 c.done.ensures refl)

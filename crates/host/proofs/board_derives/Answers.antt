@@ -1,6 +1,6 @@
-use Rattle.host.proofs.Bounds.{packs}
+use mathlib.Core.Path.{◌∙◌}
+use Rattle.host.proofs.Bounds.{answered, yes_is_1}
 use Rattle.host.proofs.board_derives.Goals as goal
 
-pub returns : goal.returns
-returns c = let q = c.derives-q in
-    (q.result.number, (q.result.yes, q.ensures, packs _ _ _ c.packed.ensures c.place_of.ensures c.one_if.ensures))
+pub returns-in-Ok : goal.returns-in-Ok
+returns-in-Ok c = (0, (c.in-Ok.yes, c.in-Ok.ensures, answered _ _ c.done.ensures (c.from.ensures ∙ yes_is_1 _)))

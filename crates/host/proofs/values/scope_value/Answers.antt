@@ -1,8 +1,0 @@
-use native.Mathlib.Omega.{arith}
-use Rattle.host.proofs.values.scope_value.Goals as goal
-
-pub returns-then-yes : goal.returns-then-yes
-returns-then-yes c = rw c.if-yes.true
-
-pub returns : goal.returns
-returns c = rw c.if-yes.false (omega arith)
