@@ -6,44 +6,32 @@
 ghost use Rattle.std.specs.Prelude.{◌≤◌, length, IfOk};
 
 use board::Board;
-use board::kept::{Manager, line_manager, steps};
+use board::kept::{line_manager, steps};
 use boardfile::lent::read_into;
-use sets::{Pick, lowest, size, without};
+use hierarchy::working::Kept;
+use sets::{roles_of, size};
 use std::io;
 use std::io::Read;
-
-fn say(rt: &impl Print, text: &[u8]) -> io::Result<()> {
-    rt.write_all(text)
-}
-
-fn number(rt: &impl Print, n: u64) -> io::Result<()> {
-    print!(rt; "{n}")
-}
+use writer::edge_count;
 
 // The line of one role.
-fn list(rt: &impl Print, manager: &[u8; 64], role: u32) -> io::Result<()> {
-    number(rt, role as u64)?;
-    say(rt, b" ")?;
-    let m = line_manager(manager, role);
-    match m {
-        Manager::Role(x) => number(rt, x as u64)?,
-        Manager::Nobody => say(rt, b"-")?,
+fn list(rt: &impl Print, kept: &Kept, role: u32) -> io::Result<()> {
+    let away = steps(kept, role);
+    match line_manager(kept, role) {
+        Some(manager) => println!(rt; "{role} {manager} {away}"),
+        None => println!(rt; "{role} - {away}"),
     }
-    say(rt, b" ")?;
-    number(rt, steps(manager, role) as u64)?;
-    say(rt, b"\n")
 }
 
-// The lines of all roles, ascending.
-fn list_all(rt: &impl Print, live: u64, manager: &[u8; 64]) -> io::Result<()> {
-    let mut rest = live;
-    loop {
-        let Pick::Role(role) = lowest(rest) else {
-            return Ok(());
-        };
-        list(rt, manager, role as u32)?;
-        rest = without(rest, role);
+// How large the board is, and the lines of all roles, ascending.
+fn list_board(rt: &impl Print, b: &Board) -> io::Result<()> {
+    let roles = size(b.tables.live);
+    let edges = edge_count(b);
+    println!(rt; "roles {roles} edges {edges}")?;
+    for role in roles_of(b.tables.live) {
+        list(rt, &b.kept, role as u32)?;
     }
+    Ok(())
 }
 
 // Reads until the space is full or the input ends, and answers how many bytes stand at its start.
@@ -52,68 +40,21 @@ fn read_full(input: &mut impl Read, space: &mut [u8]) -> io::Result<usize>
 {
     let mut done = 0;
     while done < space.len() {
-        let n = input.read(&mut space[done..])?;
-        if n == 0 {
-            break;
+        match input.read(&mut space[done..])? {
+            0 => break,
+            n => done += n,
         }
-        done += n;
     }
     Ok(done)
 }
 
-// Reads the board into these parts, and answers the reader's number. One byte more than the longest file is read, so that a longer input
-// is refused and not cut.
-fn read_input(
-    input: &mut impl Read,
-    live: &mut u64,
-    i: &mut [u64; 64],
-    a: &mut [u64; 64],
-    derives: &mut [u64; 64],
-    derivers: &mut [u64; 64],
-    manager: &mut [u8; 64],
-    rights: &mut [u8; 64],
-) -> io::Result<u8> {
-    let mut space = [0u8; Board::FILE + 1];
-    let n = read_full(input, &mut space)?;
-    Ok(read_into(&space[..n], live, i, a, derives, derivers, manager, rights))
-}
-
+// One byte more than the longest file is read, so that a longer input is refused and not cut.
 fn main(rt: HostRuntime) -> io::Result<()> {
-    let mut live: u64 = 0;
-    let mut i = [0u64; 64];
-    let mut a = [0u64; 64];
-    let mut derives = [0u64; 64];
-    let mut derivers = [0u64; 64];
-    let mut manager = [0u8; 64];
-    let mut rights = [0u8; 64];
-    let refusal = read_input(
-        &mut rt.stdin(),
-        &mut live,
-        &mut i,
-        &mut a,
-        &mut derives,
-        &mut derivers,
-        &mut manager,
-        &mut rights,
-    )?;
-    if refusal != 0 {
-        say(&rt, b"refused ")?;
-        number(&rt, refusal as u64)?;
-        return say(&rt, b"\n");
+    let mut space = [0u8; Board::FILE + 1];
+    let n = read_full(&mut rt.stdin(), &mut space)?;
+    let mut b = Board::founding();
+    match read_into(&space[..n], &mut b) {
+        Ok(()) => list_board(&rt, &b),
+        Err(refusal) => println!(&rt; "refused {}", refusal.number()),
     }
-    say(&rt, b"roles ")?;
-    number(&rt, size(live) as u64)?;
-    say(&rt, b" edges ")?;
-    let board = Board {
-        live,
-        i,
-        a,
-        derives,
-        derivers,
-        manager,
-        rights,
-    };
-    number(&rt, writer::edge_count(board) as u64)?;
-    say(&rt, b"\n")?;
-    list_all(&rt, live, &manager)
 }
