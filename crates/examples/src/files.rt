@@ -40,7 +40,7 @@ pub(crate) fn rewritten(rt: &impl Print, name: &str, file: &[u8], at: usize) -> 
     }
 }
 
-// What the kinds of a path's edges join to. IA is where it begins, since it leaves every kind as it is.
+// What the kinds of a path's edges join to, each a number as in the file. IA is where it begins, since it leaves every kind as it is.
 fn joined(kinds: &[u8]) -> u8 {
     kinds.iter().fold(
         IA as u8,

@@ -123,7 +123,8 @@ pub(crate) fn rights(rt: &impl Print, name: &str, b: &Board, r: usize) -> io::Re
     println!(rt; "{name}: {r} holds{}", Rights(held as u32))
 }
 
-// The kind of the edge from x to y, by the two tables; 0 where there is none.
+// The kind of the edge from x to y, by the two tables; 0 where there is none. (`writer` has the like for itself, of the two rows of a senior:
+// one for both would be a public function more, for these four lines.)
 fn kind_of(t: &Tables, x: usize, y: usize) -> u32 {
     let juniors = |table: &[u64; 64]| table.get(x).copied().unwrap_or(0);
     match (has(juniors(&t.i), y), has(juniors(&t.a), y)) {

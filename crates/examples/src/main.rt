@@ -309,8 +309,8 @@ fn along_a_path(rt: &impl Print) -> io::Result<()> {
     Ok(())
 }
 
-// The thin form: role 1 makes the edge 1 to 3 an I edge, as above, on a board that is lent.
-fn by_the_thin_form(rt: &impl Print) -> io::Result<()> {
+// Role 1 makes the edge 1 to 3 an I edge, as above, on a board that is lent.
+fn on_a_lent_board(rt: &impl Print) -> io::Result<()> {
     let b = p();
     let mut lent = b;
     lines::asked_of_lent(rt, "P lent", &mut lent, change_edge(1, 1, 3, I))?;
@@ -338,5 +338,5 @@ fn main(rt: HostRuntime) -> io::Result<()> {
     an_evening(&rt)?;
     on_the_file(&rt)?;
     along_a_path(&rt)?;
-    by_the_thin_form(&rt)
+    on_a_lent_board(&rt)
 }
