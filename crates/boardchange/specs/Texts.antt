@@ -1,18 +1,16 @@
 -- The commands of a text, one or many, and what giving them to a board leaves: a run, as request 6 has it.
-use Rattle.std.specs.Prelude.{◌≡◌, Bool, true, false, cond, ◌||◌, List, [], ◌∷◌, ◌++◌, ℕ, eqb, length, get_or}
+use Rattle.std.specs.Prelude.{◌≡◌, Bool, true, false, cond, ◌||◌, List, [], ◌∷◌, ◌++◌, Ok, Err, ℕ, eqb, length, get_or}
 use Rattle.board.specs.declared.Board.{Board}
 use Rattle.board.specs.declared.Command.{Command}
-use Rattle.board.specs.declared.answers.Answer.{Answer}
+use Rattle.board.specs.Answers.{Answer}
 use Rattle.runs.specs.Runs.{Ran}
 use Rattle.wording.specs.Texts.{pieces, word_at}
-use Rattle.wording.specs.Meanings.{meaning_of}
-use Rattle.wording.specs.declared.Meaning.{Meaning}
-use Rattle.wording.specs.declared.Meaning.TheVariants.{Means, Wrong}
+use Rattle.wording.specs.Meanings.{Meaning, meaning_of}
 
 -- the command that a line means, if it means one
 abbrev pub meant_by : Meaning → List Command
-meant_by (Means c) = c ∷ []
-meant_by (Wrong k what) = []
+meant_by (Ok c) = c ∷ []
+meant_by (Err wrong) = []
 
 -- a line of many is passed over where it has no word, or its first begins with '#'
 unfoldable pub passed? : List ℕ → Bool

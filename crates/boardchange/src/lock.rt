@@ -1,40 +1,34 @@
 // The lock of a board: a file beside it that one change makes and all others find. This program removes no other's.
 use crate::lines::{complain, fail};
 use crate::protocol::make;
-use crate::system::{nap, see};
+use crate::system::{is_nameless, nap};
 use std::fs::File;
 use std::os::fd::AsRawFd;
 use std::{fs, io};
 
-// how long a change waits for another, in hundredths of a second
+// how often a change looks for the lock of another, a hundredth of a second apart
 const PATIENCE: u32 = 500;
 
 // Whether the lock could not be made because there is one.
 fn is_busy(made: &io::Result<File>) -> bool {
-    match made {
-        Ok(_) => false,
-        Err(why) => why.kind() == io::ErrorKind::AlreadyExists,
-    }
+    matches!(made, Err(why) if why.kind() == io::ErrorKind::AlreadyExists)
 }
 
 // Makes the lock, and waits where another change has it. Answers the lock, open, or why it could not be made.
 fn taken(rt: HostRuntime, lock: &str) -> io::Result<File> {
-    let mut left = PATIENCE;
-    let mut made = make(rt, lock);
-    while left > 0 {
+    for _ in 0..PATIENCE {
+        let made = make(rt, lock);
         if !is_busy(&made) {
             return made;
         }
         nap(rt);
-        made = make(rt, lock);
-        left -= 1;
     }
-    made
+    make(rt, lock)
 }
 
 // Whether somebody took our lock away: then the file of that name, if there is one, is another's.
 pub(crate) fn is_lost(held: &File) -> bool {
-    see(held).names == 0
+    is_nameless(held)
 }
 
 // The lock goes, and only then it is closed: while the file stands, whoever looks finds that somebody has it open.

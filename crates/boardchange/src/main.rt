@@ -24,29 +24,28 @@ mod system;
 
 use arrayvec::ArrayString;
 use board::Board;
+use board::answers::Refusal;
 use disk::{Trouble, open_folder, open_update, read_whole};
 use given::given;
-use input::{INPUT, WORDS, arg_count, gather};
-use lines::{complain, fail, put, put_line, put_quoted, say};
+use input::{INPUT, NoWord, WORDS, arg_count, gather};
+use lines::{Quoted, complain, fail, say};
 use lock::{give_up, take};
-use paths::{LOCK, is_link, is_lock, put_lock};
-use protocol::{Begun, Came, begin, put_in_place};
-use reasons::put_refused;
+use paths::{LOCK, Names, is_link, is_lock, put_lock};
+use protocol::{Begun, Unplaced, begin, put_in_place};
 use std::fs::File;
 use std::io;
 use std::rt::Env;
 
 // Why the new board isn't the file.
-fn say_unplaced(rt: HostRuntime, name: &str, lock: &str, came: Came) {
-    match came {
-        Came::Placed => {}
-        Came::Lost => complain(
+fn say_unplaced(rt: HostRuntime, names: Names, why: Unplaced) {
+    match why {
+        Unplaced::Lost => complain(
             rt,
-            lock,
+            names.lock,
             ": somebody removed this lock; nothing was changed",
         ),
-        Came::Unwritten(why) => fail(rt, lock, why),
-        Came::Unnamed(why) => fail(rt, name, why),
+        Unplaced::Unwritten(why) => fail(rt, names.lock, why),
+        Unplaced::Unnamed(why) => fail(rt, names.board, why),
     }
 }
 
@@ -60,40 +59,36 @@ fn sync_folder(rt: HostRuntime, name: &str, folder: &File) {
 
 // The new board takes the old one's place. Answers whether it did; where not, the lock is gone and the file as it was. The lock goes
 // before anything is said, here and everywhere.
-fn replace<'t>(
-    rt: HostRuntime,
-    name: &str,
-    lock: &str,
-    mut held: File,
-    live: u64,
-    i: &'t [u64; 64],
-    a: &'t [u64; 64],
-    down: &'t [u64; 64],
-    up: &'t [u64; 64],
-    manager: &'t [u8; 64],
-    rights: &'t [u8; 64],
-) -> bool {
-    let folder = match open_folder(rt, name) {
+fn replace(rt: HostRuntime, names: Names, mut held: File, b: &Board) -> bool {
+    let folder = match open_folder(rt, names.board) {
         Ok(folder) => folder,
         Err(why) => {
-            give_up(rt, held, lock);
-            fail(rt, name, why);
+            give_up(rt, held, names.lock);
+            fail(rt, names.board, why);
             return false;
         }
     };
-    match put_in_place(
-        rt, name, lock, &mut held, live, i, a, down, up, manager, rights,
-    ) {
-        Came::Placed => {
+    match put_in_place(rt, names, &mut held, b) {
+        Ok(()) => {
             drop(held);
-            sync_folder(rt, name, &folder);
+            sync_folder(rt, names.board, &folder);
             true
         }
-        came => {
-            give_up(rt, held, lock);
-            say_unplaced(rt, name, lock, came);
+        Err(why) => {
+            give_up(rt, held, names.lock);
+            say_unplaced(rt, names, why);
             false
         }
+    }
+}
+
+// What is wrong with a board file.
+fn fault(refusal: Refusal) -> &'static str {
+    match refusal {
+        Refusal::BadFrame => "this is no board file, or it was cut or damaged",
+        Refusal::BadRecord => "the board file is damaged: it has a bad record",
+        Refusal::Loops => "in the board file some role reaches itself",
+        _ => "in the board file some role has no administrator",
     }
 }
 
@@ -107,281 +102,124 @@ fn say_trouble(rt: HostRuntime, name: &str, trouble: Trouble) {
             ": it has another name, a hard link; two names would be two locks",
         ),
         Trouble::System(why) => fail(rt, name, why),
+        Trouble::Refused(refusal) => say(
+            rt,
+            format_args!("refused {}: {}", refusal.number(), fault(refusal)),
+        ),
     }
 }
 
-// What is wrong with a board file: the line of its number.
-fn fault(number: u8) -> usize {
-    if number == 10 {
-        return 0;
-    }
-    if number == 11 {
-        return 1;
-    }
-    if number == 7 {
-        return 2;
-    }
-    3
-}
-
-fn say_file_refused(rt: HostRuntime, number: u8) {
-    let mut out = [0u8; 512];
-    let at = put_refused(&mut out, 0, number as u64);
-    let at = put_line(
-        &mut out,
-        at,
-        b"this is no board file, or it was cut or damaged
-the board file is damaged: it has a bad record
-in the board file some role reaches itself
-in the board file some role has no administrator",
-        fault(number),
-    );
-    say(rt, &mut out, at);
-}
-
-// Gives the commands to the board of these parts and says nothing; where one was done, that board becomes the file. Answers whether the
-// answers may be said.
+// Gives the commands to the board and says nothing; where one was done, that board becomes the file. Answers whether the answers may be
+// said.
 fn change_file(
     rt: HostRuntime,
-    name: &str,
-    lock: &str,
+    names: Names,
     held: File,
-    live: &mut u64,
-    i: &mut [u64; 64],
-    a: &mut [u64; 64],
-    down: &mut [u64; 64],
-    up: &mut [u64; 64],
-    manager: &mut [u8; 64],
-    rights: &mut [u8; 64],
+    b: &mut Board,
     text: &[u8],
     many: bool,
 ) -> bool {
-    if given(rt, live, i, a, down, up, manager, rights, text, many, false) {
-        return replace(rt, name, lock, held, *live, i, a, down, up, manager, rights);
+    if given(rt, b, text, many, false) {
+        return replace(rt, names, held, b);
     }
-    give_up(rt, held, lock);
+    give_up(rt, held, names.lock);
     true
 }
 
-// The same with a copy of the board, which stays as it was read.
-fn change_by_copy<'t>(
-    rt: HostRuntime,
-    name: &str,
-    lock: &str,
-    held: File,
-    live: u64,
-    i: &'t [u64; 64],
-    a: &'t [u64; 64],
-    down: &'t [u64; 64],
-    up: &'t [u64; 64],
-    manager: &'t [u8; 64],
-    rights: &'t [u8; 64],
-    text: &[u8],
-    many: bool,
-) -> bool {
-    let mut new_live = live;
-    let mut new_i = *i;
-    let mut new_a = *a;
-    let mut new_down = *down;
-    let mut new_up = *up;
-    let mut new_manager = *manager;
-    let mut new_rights = *rights;
-    change_file(
-        rt,
-        name,
-        lock,
-        held,
-        &mut new_live,
-        &mut new_i,
-        &mut new_a,
-        &mut new_down,
-        &mut new_up,
-        &mut new_manager,
-        &mut new_rights,
-        text,
-        many,
-    )
-}
-
 // The lock, where a board was read; where not, it goes and it is said why.
-fn if_read(rt: HostRuntime, name: &str, lock: &str, begun: Begun) -> Option<File> {
+fn if_read(rt: HostRuntime, names: Names, begun: Begun) -> Option<File> {
     let Begun { held, was } = begun;
     match was {
-        Ok(0) => Some(held),
-        Ok(number) => {
-            give_up(rt, held, lock);
-            say_file_refused(rt, number);
-            None
-        }
+        Ok(()) => Some(held),
         Err(trouble) => {
-            give_up(rt, held, lock);
-            say_trouble(rt, name, trouble);
+            give_up(rt, held, names.lock);
+            say_trouble(rt, names.board, trouble);
             None
         }
     }
 }
 
-// Takes the lock, reads the board into these parts, and decides the commands on it.
-fn change_read(
-    rt: HostRuntime,
-    name: &str,
-    lock: &str,
-    live: &mut u64,
-    i: &mut [u64; 64],
-    a: &mut [u64; 64],
-    down: &mut [u64; 64],
-    up: &mut [u64; 64],
-    manager: &mut [u8; 64],
-    rights: &mut [u8; 64],
-    text: &[u8],
-    many: bool,
-) {
-    let Some(begun) = begin(rt, name, lock, live, i, a, down, up, manager, rights) else {
+// Takes the lock, reads the board into this one, and decides the commands on it.
+fn change_read(rt: HostRuntime, names: Names, b: &mut Board, text: &[u8], many: bool) {
+    let Some(begun) = begin(rt, names, b) else {
         return;
     };
-    let Some(held) = if_read(rt, name, lock, begun) else {
+    let Some(held) = if_read(rt, names, begun) else {
         return;
     };
-    if change_by_copy(
-        rt, name, lock, held, *live, i, a, down, up, manager, rights, text, many,
-    ) {
+    let mut copy = *b;
+    if change_file(rt, names, held, &mut copy, text, many) {
         // the same again, aloud: the answers are those of the same commands on the same board
-        given(rt, live, i, a, down, up, manager, rights, text, many, true);
+        given(rt, b, text, many, true);
     }
 }
 
 // Decides the commands of a text on the board in the file, and leaves the new board there.
-fn change(rt: HostRuntime, name: &str, lock: &str, text: &[u8], many: bool) {
-    let mut live: u64 = 0;
-    let mut i = [0u64; 64];
-    let mut a = [0u64; 64];
-    let mut down = [0u64; 64];
-    let mut up = [0u64; 64];
-    let mut manager = [0u8; 64];
-    let mut rights = [0u8; 64];
-    change_read(
-        rt,
-        name,
-        lock,
-        &mut live,
-        &mut i,
-        &mut a,
-        &mut down,
-        &mut up,
-        &mut manager,
-        &mut rights,
-        text,
-        many,
-    );
-}
-
-// The founding board becomes the file.
-fn founded(rt: HostRuntime, name: &str, lock: &str, held: File) -> bool {
-    let b = Board::founding();
-    replace(
-        rt,
-        name,
-        lock,
-        held,
-        b.live,
-        &b.i,
-        &b.a,
-        &b.derives,
-        &b.derivers,
-        &b.manager,
-        &b.rights,
-    )
+fn change(rt: HostRuntime, names: Names, text: &[u8], many: bool) {
+    change_read(rt, names, &mut Board::founding(), text, many);
 }
 
 // Makes the file, with the founding board, where there is none of that name.
-fn found(rt: HostRuntime, name: &str, lock: &str) {
-    let Some(held) = take(rt, lock) else {
+fn found(rt: HostRuntime, names: Names) {
+    let Some(held) = take(rt, names.lock) else {
         return;
     };
-    match open_update(rt, name) {
+    match open_update(rt, names.board) {
         Ok(there) => {
             drop(there);
-            give_up(rt, held, lock);
+            give_up(rt, held, names.lock);
             complain(
                 rt,
-                name,
+                names.board,
                 ": there is such a file already, which stays as it is",
             );
             return;
         }
+        Err(why) if why.kind() == io::ErrorKind::NotFound => {}
         Err(why) => {
-            if why.kind() != io::ErrorKind::NotFound {
-                give_up(rt, held, lock);
-                fail(rt, name, why);
-                return;
-            }
+            give_up(rt, held, names.lock);
+            fail(rt, names.board, why);
+            return;
         }
     }
-    if founded(rt, name, lock, held) {
-        let mut out = [0u8; 16];
-        let at = put(&mut out, 0, b"done");
-        say(rt, &mut out, at);
+    if replace(rt, names, held, &Board::founding()) {
+        say(rt, "done");
     }
-}
-
-fn say_too_long(rt: HostRuntime) {
-    let mut out = [0u8; 512];
-    let at = put_refused(&mut out, 0, 2);
-    let at = put(
-        &mut out,
-        at,
-        b"the input has more than 60000 bytes; nothing of it was tried",
-    );
-    say(rt, &mut out, at);
 }
 
 // The commands on standard input. They are read before the lock is made: who types them slowly keeps nobody waiting.
-fn change_by_input(rt: HostRuntime, name: &str, lock: &str) {
+fn change_by_input(rt: HostRuntime, names: Names) {
     let mut space = [0u8; INPUT + 1];
-    let got = read_whole(&mut rt.stdin(), &mut space);
-    let n = got.n;
-    if let Err(why) = got.fine {
-        fail(rt, "standard input", why);
-        return;
-    }
-    if n > INPUT {
-        say_too_long(rt);
-        return;
-    }
-    change(rt, name, lock, &space[0..n], true);
-}
-
-// Argument k in quotes, cut where it is long.
-fn put_argument(rt: HostRuntime, out: &mut [u8], at: usize, k: usize) -> usize {
-    let mut text = [0u8; WORDS];
-    match rt.arg(k, &mut text) {
-        Ok(n) => put_quoted(out, at, &text[..n]),
-        Err(_) => put_quoted(out, at, &text),
+    match read_whole(&mut rt.stdin(), &mut space) {
+        Ok(n) if n > INPUT => say(
+            rt,
+            "refused 2: the input has more than 60000 bytes; nothing of it was tried",
+        ),
+        Ok(n) => change(rt, names, &space[..n], true),
+        Err(why) => fail(rt, "standard input", why),
     }
 }
 
+// Argument k is no word: it is shown in quotes, cut where it is long.
 fn say_no_word(rt: HostRuntime, k: usize) {
-    let mut out = [0u8; 512];
-    let at = put_refused(&mut out, 0, 2);
-    let at = put_argument(rt, &mut out, at, k);
-    let at = put(
-        &mut out,
-        at,
-        b" can't be taken: no word is empty or has a blank in it, and all have at most 4095 bytes",
+    let mut text = [0u8; WORDS];
+    let n = rt.arg(k, &mut text).unwrap_or(WORDS);
+    say(
+        rt,
+        format_args!(
+            "refused 2: {} can't be taken: no word is empty or has a blank in it, and all have at most 4095 bytes",
+            Quoted(&text[..n])
+        ),
     );
-    say(rt, &mut out, at);
 }
 
 // The command of the arguments.
-fn change_by_words(rt: HostRuntime, name: &str, lock: &str) {
+fn change_by_words(rt: HostRuntime, names: Names) {
     let mut space = [0u8; WORDS];
-    let g = gather(rt, &mut space);
-    if g.wrong != 0 {
-        say_no_word(rt, g.wrong);
-        return;
+    match gather(rt, &mut space) {
+        Ok(n) => change(rt, names, &space[..n], false),
+        Err(NoWord(k)) => say_no_word(rt, k),
     }
-    let n = g.n;
-    change(rt, name, lock, &space[0..n], false);
 }
 
 fn asks_to_found(rt: HostRuntime) -> bool {
@@ -392,22 +230,17 @@ fn asks_to_found(rt: HostRuntime) -> bool {
     }
 }
 
-fn act(rt: HostRuntime, name: &str, lock: &str) {
-    let count = arg_count(rt);
-    if count == 2 {
-        change_by_input(rt, name, lock);
-        return;
+fn act(rt: HostRuntime, names: Names) {
+    match arg_count(rt) {
+        2 => change_by_input(rt, names),
+        3 if asks_to_found(rt) => found(rt, names),
+        _ => change_by_words(rt, names),
     }
-    if count == 3 && asks_to_found(rt) {
-        found(rt, name, lock);
-        return;
-    }
-    change_by_words(rt, name, lock);
 }
 
 // The same, with the lock's name from that of the file.
 fn act_on(rt: HostRuntime, name: &str) {
-    if name.len() == 0 {
+    if name.is_empty() {
         complain(rt, "FILE", ": it has no name");
         return;
     }
@@ -424,11 +257,15 @@ fn act_on(rt: HostRuntime, name: &str) {
         return;
     }
     let mut lock: ArrayString<LOCK> = ArrayString::new();
-    if !put_lock(&mut lock, name) {
+    if put_lock(&mut lock, name).is_err() {
         complain(rt, name, ": too long a name");
         return;
     }
-    act(rt, name, lock.as_str());
+    let names = Names {
+        board: name,
+        lock: lock.as_str(),
+    };
+    act(rt, names);
 }
 
 fn usage(rt: HostRuntime) {

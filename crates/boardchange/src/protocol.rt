@@ -2,6 +2,8 @@
 // must not outdate what it does.
 use crate::disk::{Trouble, load, store};
 use crate::lock::{is_lost, take};
+use crate::paths::Names;
+use board::Board;
 use std::fs::File;
 use std::{fs, io};
 
@@ -10,65 +12,39 @@ pub(crate) fn make(rt: HostRuntime, lock: &str) -> io::Result<File> {
     File::options().write(true).create_new(true).open(&rt, lock)
 }
 
-// A change that has begun: the lock, open, and how the board was read, as `load` has it.
+// A change that has begun: the lock, open, and whether the board was read.
 #[derive(Drop)]
 pub(crate) struct Begun {
     pub(crate) held: File,
-    pub(crate) was: Result<u8, Trouble>,
+    pub(crate) was: Result<(), Trouble>,
 }
 
 // The lock first, the board then: whoever reads the file to decide on it is alone until it has decided. Nothing has begun where there is
 // no lock.
-pub(crate) fn begin(
-    rt: HostRuntime,
-    name: &str,
-    lock: &str,
-    live: &mut u64,
-    i: &mut [u64; 64],
-    a: &mut [u64; 64],
-    derives: &mut [u64; 64],
-    derivers: &mut [u64; 64],
-    manager: &mut [u8; 64],
-    rights: &mut [u8; 64],
-) -> Option<Begun> {
-    let held = take(rt, lock)?;
-    let was = load(
-        rt, name, &held, live, i, a, derives, derivers, manager, rights,
-    );
+pub(crate) fn begin(rt: HostRuntime, names: Names, b: &mut Board) -> Option<Begun> {
+    let held = take(rt, names.lock)?;
+    let was = load(rt, names.board, &held, b);
     Some(Begun { held, was })
 }
 
-// How far a new board came: it has the file's name; it isn't on the disk; the lock that it lies in was taken away; it got no name.
+// Why a new board didn't get the file's name: it isn't on the disk; the lock that it lies in was taken away; the system refused the name.
 #[derive(Drop)]
-pub(crate) enum Came {
-    Placed,
+pub(crate) enum Unplaced {
     Unwritten(io::Error),
     Lost,
     Unnamed(io::Error),
 }
 
 // The new board goes into the lock, down to the disk, and only then the lock takes the file's name: the file is at any moment a whole one.
-pub(crate) fn put_in_place<'t>(
+pub(crate) fn put_in_place(
     rt: HostRuntime,
-    name: &str,
-    lock: &str,
+    names: Names,
     held: &mut File,
-    live: u64,
-    i: &'t [u64; 64],
-    a: &'t [u64; 64],
-    derives: &'t [u64; 64],
-    derivers: &'t [u64; 64],
-    manager: &'t [u8; 64],
-    rights: &'t [u8; 64],
-) -> Came {
-    if let Err(why) = store(held, live, i, a, derives, derivers, manager, rights) {
-        return Came::Unwritten(why);
-    }
+    b: &Board,
+) -> Result<(), Unplaced> {
+    store(held, b).map_err(Unplaced::Unwritten)?;
     if is_lost(held) {
-        return Came::Lost;
+        return Err(Unplaced::Lost);
     }
-    if let Err(why) = fs::rename(&rt, lock, name) {
-        return Came::Unnamed(why);
-    }
-    Came::Placed
+    fs::rename(&rt, names.lock, names.board).map_err(Unplaced::Unnamed)
 }
