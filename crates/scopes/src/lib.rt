@@ -5,7 +5,7 @@
 
 pub mod kinds;
 
-ghost use Rattle.std.specs.Prelude.{◌≡◌, true, ◌||◌, ◌↔◌, ℕ};
+ghost use Rattle.std.specs.Prelude.{◌≡◌, true, ◌||◌, ◌↔◌, ℕ, ◌<◌};
 ghost use Rattle.sets.specs.Sets.{bit, ◌is_in◌};
 ghost use Rattle.hierarchy.specs.Tables.{row};
 ghost use Rattle.hierarchy.specs.Views.{ScopeBy, BarBy};
@@ -22,37 +22,34 @@ pub enum Bar {
     InTheWay(u8),
 }
 
-// The row of x, which past the table is blank.
-fn row_of(table: &[u64; 64], x: usize) -> u64
-    ensures { result ≡ row table.now x }
-{
-    match table.get(x) {
-        Some(row) => *row,
-        None => 0,
-    }
-}
-
 // What is above or below a.
 fn related(kept: &Kept, a: usize) -> u64
+    requires { a < 64 }
     ensures { (x : ℕ) → bit result x ≡ (bit (row kept.now.derivers a) x || bit (row kept.now.derives a) x) }
 {
-    union(row_of(&kept.derivers, a), row_of(&kept.derives, a))
+    union(kept.derivers[a], kept.derives[a])
 }
 
 // Whether r is in the scope of a: a derives r, and whatever derives r is above or below a.
 pub fn in_scope(kept: &Kept, a: usize, r: usize) -> bool
     ensures { (result ≡ true) ↔ ScopeBy kept.now.derives kept.now.derivers a r }
 {
-    let above = row_of(&kept.derivers, r);
-    has(row_of(&kept.derives, a), r) && has(above, a) && within(above, related(kept, a))
+    if a >= 64 || r >= 64 {
+        return false;
+    }
+    let above = kept.derivers[r];
+    has(kept.derives[a], r) && has(above, a) && within(above, related(kept, a))
 }
 
 // The scope of a, as a set.
 pub fn scope(kept: &Kept, a: usize) -> u64
     ensures { (r : ℕ) → (r is_in result) ↔ ScopeBy kept.now.derives kept.now.derivers a r }
 {
+    if a >= 64 {
+        return 0;
+    }
     let mut found: u64 = 0;
-    for r in roles_of(row_of(&kept.derives, a)) {
+    for r in roles_of(kept.derives[a]) {
         if in_scope(kept, a, r) {
             found = with(found, r);
         }
@@ -64,8 +61,11 @@ pub fn scope(kept: &Kept, a: usize) -> u64
 pub fn bars(kept: &Kept, a: usize, r: usize) -> Option<Bar>
     ensures { BarBy kept.now.derives kept.now.derivers a r (bar_cause result) (bar_way result) }
 {
-    let above = row_of(&kept.derivers, r);
-    if !has(row_of(&kept.derives, a), r) || !has(above, a) {
+    if a >= 64 || r >= 64 {
+        return Some(Bar::NotDerived);
+    }
+    let above = kept.derivers[r];
+    if !has(kept.derives[a], r) || !has(above, a) {
         return Some(Bar::NotDerived);
     }
     let stranger = lowest(minus(above, related(kept, a)))?;
