@@ -14,12 +14,12 @@ tables live i a = record { live = live; i = i; a = a }
 abbrev pub row : List ℕ → ℕ → ℕ
 row t x = get_or t x 0
 
--- 64 rows, and no row has a member above 63. Its type says so of a table by value; of one that is lent it has to be said.
+-- 64 rows, and no row has a member above 63, as the type of a table says
 pub record IsTable (t : List ℕ) : Type 0 where
   pub rows : length t ≡ 64
   pub fits : (x : ℕ) → row t x < 2 ^ 64
 
--- 64 bytes, as the type says of a row by value
+-- 64 bytes, as the type of a row says
 pub record AreBytes (t : List ℕ) : Type 0 where
   pub rows : length t ≡ 64
   pub fits : (x : ℕ) → row t x < 256

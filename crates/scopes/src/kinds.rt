@@ -1,4 +1,4 @@
-// How kinds join along a path.
+// How kinds join along a path. Kinds stay numbers, since document 01 gives its table over them and `join` answers for every number.
 ghost use Rattle.std.specs.Prelude.{◌≡◌};
 ghost use Rattle.hierarchy.specs.Tables.{join};
 
