@@ -24,7 +24,7 @@ fn administrators_of(kept: &Kept, r: usize) -> u64
 }
 
 // Of the administrators of a role the one that all others derive: from any of them on, the highest number first, it goes to one that this
-// derives, until that derives no other.
+// derives, until that derives no other. No `for` goes through these: which are left hangs on the one that was met.
 fn nearest(derives: &[u64; 64], administrators: u64) -> Option<u8>
     ensures { (t : Tables) (r : ℕ) → AdminsOf t derives.now administrators r → NearestIs t r (unwrap_or result 64) }
 {

@@ -19,7 +19,7 @@ fn rows(table: &[u64; 64], s: u64) -> u64
     sum
 }
 
-// The row of role x is what it has of its own and the rows of its juniors in the table.
+// The row of role x is what it has of its own and the rows of its juniors in the table. Both are lent apart: it is called for I and for A.
 fn settle(table: &[u64; 64], reach: &mut [u64; 64], x: usize, own: u64) -> u64
     requires { x < 64 }
     ensures { RowSettled table.now reach.old x own result reach.new }
@@ -42,7 +42,7 @@ fn finish(t: &Tables, kept: &mut Kept, done: u64, x: usize) -> u64
 
 // Goes down from root, each role of the path a junior of the one before, and settles a role on the way back, when its juniors are done.
 // Fresh are the live roles it hasn't met: a junior neither done nor fresh is on the path, a loop, or doesn't live, and there it stops.
-// The path stands in the row of managers, and `above` is the place of its last role: there is no heap, and no other room.
+// The path stands in the row of managers, and `above` is the place of its last role, since there is no heap and no function calls itself.
 fn descend(t: &Tables, kept: &mut Kept, start: u64, root: usize) -> u64
     requires { Starts t.now kept.old start root }
     ensures { Descended t.now kept.new start root result }
@@ -90,6 +90,7 @@ pub(crate) fn fill_down(t: &Tables, kept: &mut Kept) -> bool
     kept.derives = [0; 64];
     kept.derivers = [0; 64];
     let mut done: u64 = 0;
+    // No `for` goes through the live roles: one walk may settle many of them.
     while let Some(root) = lowest(minus(t.live, done)) {
         done = descend(t, kept, done, root);
         if !has(done, root) {
