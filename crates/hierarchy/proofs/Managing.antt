@@ -1,6 +1,6 @@
 -- Scopes and line managers off the views: what each function's turn or return shows. Assumes nothing.
 use mathlib.Core.Path.{◌≡◌, refl, sym, ap, ◌∙◌, subst}
-use mathlib.Core.Bool.{Bool, true, false, not, ◌&&◌, ◌||◌, and-false, false≢true}
+use mathlib.Core.Bool.{true, false, not, ◌&&◌, ◌||◌, false≢true}
 use mathlib.Core.Logic.Iff
 use mathlib.Core.Logic.{◌⊎◌, inl, inr, ⊎_elim, ⊎_map, ◌↔◌, ◌≢◌, dite}
 use mathlib.Core.List.{List}
@@ -11,16 +11,15 @@ use native.Mathlib.Omega.{arith}
 use lib.Count.{ones}
 use lib.ListN.{get_or, length, length-set, set, replicate, get_or-eq_default}
 use Rattle.sets.specs.Sets.{bit, ◌is_in◌, ◌are_in◌, same?, LowestRole, NoRole}
-use Rattle.sets.proofs.Bools.{true_or_false, lt_or_ge, or_cases, or_left, or_right, and_left, and_right, and_both, false_no, not_so}
+use Rattle.sets.proofs.Bools.{lt_or_ge, and_left, false_no}
 use Rattle.sets.proofs.Digits.{bit_zero}
 use Rattle.sets.proofs.Laws.{same_eq, same_self, ones_mono}
-use Rattle.sets.proofs.Members.{drawn_part, drawn_less, Taken, taken_part, taken_kept, drawn, drawn_cases}
+use Rattle.sets.proofs.Members.{drawn_part, drawn_less, Taken, taken_part, taken_kept}
 use Rattle.hierarchy.specs.Tables.{Tables, row}
 use Rattle.hierarchy.specs.Words.{Reaches, Derives, Administrator, Managed}
 use Rattle.hierarchy.specs.Views.{AreViews, RelatedBy, InTheWayBy, manager_at, AreManagers}
 use Rattle.hierarchy.specs.Engine.{Above, AdminsOf, NearestIs, Orderly, Managers}
 use Rattle.hierarchy.proofs.Admin.{reaches_trans, derives_refl, derives_reaches, admin_live, admins_related, no_return}
-use Rattle.hierarchy.proofs.Checks.{and_is, or_is, not_is, same_test}
 use Rattle.hierarchy.proofs.Rows.{entry_of, entry_set, one_entry}
 
 -- a no that is right
@@ -31,21 +30,21 @@ no_iff n = (λ e. absurd (false≢true e), λ p. absurd (n p))
 pub past_row : (t : List ℕ) (x y : ℕ) → length t ≡ 64 → 64 ≤ x → y is_in row t x → ⊥
 past_row t x y l g e = false_no (ap (λ (n : ℕ). bit n y) (get_or-eq_default t 0 (subst (λ (n : ℕ). n ≤ x) (sym l) g)) ∙ bit_zero y) e
 
--- and of what bars r: the lowest that is left of whatever derives r
+-- what bars r: the lowest that is left of whatever derives r
 module _ {down up : List ℕ} {a r : ℕ} (near rest : ℕ) (near-is : (x : ℕ) → bit near x ≡ (bit (row up a) x || bit (row down a) x))
     (rest_is : (x : ℕ) → bit rest x ≡ (bit (row up r) x && not (bit near x))) where
   pub bar_way : {x : ℕ} → LowestRole rest x → InTheWayBy down up a r x
   bar_way {x} l = let w = (left x).0 l.member in record { derives = w.0; unrelated = w.1; lowest = λ y m n. l.least y ((left y).1 (m, n)) }
     where
       left : (y : ℕ) → (y is_in rest) ↔ ((y is_in row up r) × (RelatedBy down up a y → ⊥))
-      left y = same_test (rest_is y) (and_is Iff.rfl (λ _. not_is (same_test (near-is y) (or_is Iff.rfl Iff.rfl))))
+      left y = (λ e. (grind (arith, e, rest_is y), λ d. grind (arith, d, e, rest_is y, near-is y)), λ p. grind (arith, p.0, p.1, rest_is y, near-is y))
 
 -- r goes from s
 gone : (s r s' : ℕ) → r < 64 → ((a : ℕ) → bit s' a ≡ (bit s a && not (same? r a))) → (a : ℕ) → a is_in s' → a ≢ r
-gone s r s' l h a m q = false_no (h a ∙ ap (λ (p : Bool). bit s a && not p) (ap (same? r) q ∙ same_self r l) ∙ and-false (bit s a)) m
+gone s r s' l h a m q = grind (arith, m, q, h a, same_self r l)
 
 stays : (s r s' : ℕ) → ((a : ℕ) → bit s' a ≡ (bit s a && not (same? r a))) → (a : ℕ) → a is_in s → a ≢ r → a is_in s'
-stays s r s' h a m n = h a ∙ and_both (bit s a) (not (same? r a)) m (ap not (not_so (same? r a) (λ q. n (same_eq r a q))))
+stays s r s' h a m n = grind (arith, m, n, h a, same_eq r a)
 
 -- ---- administrators
 
@@ -62,20 +61,18 @@ module _ (down up : List ℕ) where
   narrow_turn {found = found} {x = x} near found' turn inv near-is found-is = record {
     part = λ y e. inv.part y (taken_part turn y e);
     only = λ a e.
-        let o = inv.only a (and_left (bit found a) (bit near a) (sym (found-is a) ∙ e)) in
-        let n = or_cases (bit (row up x) a) (bit (row down x) a) (sym (near-is a) ∙ and_right (bit found a) (bit near a) (sym (found-is a) ∙ e)) in
-        (o.0, λ y m. ⊎_elim (λ k. ⊎_map (λ z. z) (λ q. subst (λ z. RelatedBy down up z a) (sym q) n) (taken_kept turn y k)) (λ k. inr k) (o.1 y m));
-    every = λ a e f. found-is a ∙ and_both (bit found a) (bit near a) (inv.every a e f)
-        (near-is a ∙ ⊎_elim (or_left (bit (row up x) a) (bit (row down x) a)) (or_right (bit (row up x) a) (bit (row down x) a)) (f x (inv.part x turn.lowest.member)));
+        let o = inv.only a (grind (arith, e, found-is a)) in
+        (o.0, λ y m. grind (arith, e, o.1 y m, taken_kept turn y, near-is a, found-is a));
+    every = λ a e f. grind (arith, inv.every a e f, f x (inv.part x turn.lowest.member), near-is a, found-is a);
   }
 
   pub narrow_end : {r first found rest : ℕ} → r < 64 → ((a : ℕ) → bit first a ≡ (bit (row up r) a && not (same? r a)))
       → NoRole rest → Narrowed (row up r) first found rest → (a : ℕ) → (a is_in found) ↔ Above down up a r
   narrow_end {r} {first} l first-is empty inv a = (
     λ e. let o = inv.only a e in record {
-      derives = and_left (bit (row up r) a) (not (same? r a)) (sym (first-is a) ∙ o.0);
+      derives = grind (arith, o.0, first-is a);
       strict = gone (row up r) r first l first-is a o.0;
-      rivals = λ x m. ⊎_elim (λ k. absurd (false_no (empty.none x) k)) (λ k. k) (o.1 x m);
+      rivals = λ x m. grind (arith, o.1 x m, empty.none x);
     },
     λ h. inv.every a (stays (row up r) r first first-is a h.derives h.strict) h.rivals,
   )
@@ -86,14 +83,14 @@ above_by views a r = (
   λ h. record {
     scope = record {
       derives = (views.up_is a r).0 h.derives;
-      rivals = λ x d. ⊎_elim (λ m. inr ((views.up_is a x).0 m)) (λ m. inl ((views.down_is x a).0 m)) (h.rivals x ((views.up_is x r).1 d));
+      rivals = λ x d. grind (arith, h.rivals x ((views.up_is x r).1 d), (views.up_is a x).0, (views.down_is x a).0);
     };
     strict = h.strict;
   },
   λ h. record {
     derives = (views.up_is a r).1 h.scope.derives;
     strict = h.strict;
-    rivals = λ x m. ⊎_elim (λ d. inr ((views.down_is x a).1 d)) (λ d. inl ((views.up_is a x).1 d)) (h.scope.rivals x ((views.up_is x r).0 m));
+    rivals = λ x m. grind (arith, h.scope.rivals x ((views.up_is x r).0 m), (views.down_is x a).1, (views.up_is a x).1);
   },
 )
 
@@ -114,7 +111,7 @@ module _ {down : List ℕ} {s found left m : ℕ} (others left' : ℕ) (l : m < 
     (others-is : (a : ℕ) → bit others a ≡ (bit left a && not (same? m a)))
     (left_is : (a : ℕ) → bit left' a ≡ (bit others a && bit (row down m) a)) where
   goes_on : left' are_in others
-  goes_on a k = and_left (bit others a) (bit (row down m) a) (sym (left_is a) ∙ k)
+  goes_on a k = grind (arith, k, left_is a)
 
   was_left : others are_in left
   was_left = drawn_part (record { role = l; member = e; rest_is = others-is })
@@ -122,13 +119,9 @@ module _ {down : List ℕ} {s found left m : ℕ} (others left' : ℕ) (l : m < 
   module _ (t : Tables) (r : ℕ) (h : AdminsOf t down s r) where
     -- what was left is still, or is m, or derives m; and the role found before derives m
     near_left : (a : ℕ) → a is_in left → (a is_in left') ⊎ ((a ≡ m) ⊎ Reaches t a m)
-    near_left a k = dite (ℕ_discrete a m) (λ q. inr (inl q)) (λ n. ⊎_elim
-        (λ d. inl (left_is a ∙ and_both (bit others a) (bit (row down m) a) (stays left m others others-is a k n) d))
-        (λ d. inr (inr (derives_reaches (⊎_elim
-        (λ w. w)
-        (λ w. absurd (false_no d ((h.down_is m a).1 w)))
-        (admins_related ((h.members a).0 (inv.part a k)) ((h.members m).0 (inv.part m e)))) n)))
-        (true_or_false (bit (row down m) a)))
+    near_left a k = dite (ℕ_discrete a m) (λ q. inr (inl q)) (λ n.
+        let d = admins_related ((h.members a).0 (inv.part a k)) ((h.members m).0 (inv.part m e)) in
+        grind (arith, d, stays left m others others-is a k n, left_is a, (h.down_is m a).1, λ (w : Derives t a m). derives_reaches w n))
 
     near_above : (a : ℕ) → a is_in s → (a is_in left') ⊎ ((a ≡ m) ⊎ Reaches t a m)
     near_above a k = ⊎_elim (λ p. near_left a (p.1 a k)) (λ p.
@@ -137,7 +130,7 @@ module _ {down : List ℕ} {s found left m : ℕ} (others left' : ℕ) (l : m < 
         (inv.so_far t r h)
 
     near_below : (a : ℕ) → a is_in left' → Derives t m a × (a ≢ m)
-    near_below a k = ((h.down_is m a).0 (and_right (bit others a) (bit (row down m) a) (sym (left_is a) ∙ k)), gone left m others l others-is a (goes_on a k))
+    near_below a k = ((h.down_is m a).0 (grind (arith, k, left_is a)), gone left m others l others-is a (goes_on a k))
 
   pub near_less : ones left' < ones left
   near_less = le_trans (suc-le-suc (ones_mono left' others goes_on)) (drawn_less (record { role = l; member = e; rest_is = others-is }))
@@ -156,10 +149,10 @@ near_end {s = s} {found = m} {left = left} empty inv t r h = ⊎_elim
   where
     -- the other one of the two would be a loop
     under : Nearer t s m left → (a : ℕ) → Administrator t a r → Reaches t a m → Derives t a m
-    under p a k w = ⊎_elim (λ d. d) (λ d. absurd (no_return h.loopless w d)) (admins_related k ((h.members m).0 p.member))
+    under p a k w = grind (arith, no_return h.loopless w, admins_related k ((h.members m).0 p.member))
 
     lowest : Nearer t s m left → (a : ℕ) → Administrator t a r → a ≢ m → Derives t a m
-    lowest p a k n = ⊎_elim (λ e. absurd (false_no (empty.none a) e)) (λ b. ⊎_elim (λ q. absurd (n q)) (under p a k) b) (p.above a ((h.members a).1 k))
+    lowest p a k n = grind (arith, n, empty.none a, under p a k, p.above a ((h.members a).1 k))
 
 -- ---- the line managers of all
 
@@ -185,7 +178,7 @@ fill_turn {x = x} {manager = manager} s m turn inv s-is m-is = record {
         down_is = o.views.down_is;
         members = λ a. Iff.trans (s-is a) (above_by o.views a x);
       })))
-      (λ q. ⊎_elim (λ k. inv.nearest t o r k) (λ k. absurd (q k)) (drawn_cases (drawn turn) r n));
+      (λ q. inv.nearest t o r (grind (arith, n, q, turn.rest_is r, same_eq x r)));
 }
 
 pub fill_end : {live rest : ℕ} {down up manager : List ℕ} → NoRole rest → Filling live down up manager rest → (t : Tables) → Orderly t live down up → Managers t manager
@@ -228,5 +221,5 @@ pass_start {P} {live} rest rest_is q = subst (Passing P live) (sym q) (record {
 pub pass_turn : {P : ℕ → Type 0} {live rest x rest' : ℕ} → Taken rest x rest' → Passing P live rest → P x → Passing P live rest'
 pass_turn {P} turn inv p = record {
   part = λ r e. inv.part r (taken_part turn r e);
-  done = λ r m n. ⊎_elim (λ e. ⊎_map (λ k. k) (λ q. subst P (sym q) p) (taken_kept turn r e)) (λ d. inr d) (inv.done r m n);
+  done = λ r m n. grind (arith, p, inv.done r m n, taken_kept turn r);
 }

@@ -1,14 +1,15 @@
 -- Tables that a loop fills, row by row or member by member. Assumes nothing.
-use mathlib.Core.Path.{◌≡◌, refl, sym, ap, ap₂, ◌∙◌, subst}
-use mathlib.Core.Bool.{Bool, true, false, not, ◌&&◌, ◌||◌, and-true, and-false, or-false, and-not_self}
+use mathlib.Core.Path.{◌≡◌, refl, sym, ap, ◌∙◌, subst}
+use mathlib.Core.Bool.{Bool, not, ◌&&◌, ◌||◌, and-not_self}
 use mathlib.Core.Logic.{◌≢◌, dite}
 use mathlib.Core.List.{List}
 use Prim.Native.Nat.{ℕ, zero, suc, ◌<◌}
 use native.Mathlib.Decide.{ℕ_discrete}
+use native.Mathlib.Omega.{arith}
 use lib.ListN.{get_or, set, length, length-set, replicate}
 use lib.Seq.{get_or-set_same, get_or-set_other, set-get_or}
-use Rattle.sets.specs.Sets.{bit, ◌is_in◌, ◌are_in◌, same?, NoRole}
-use Rattle.sets.proofs.Bools.{and_left, and_right, and_both, not_so}
+use Rattle.sets.specs.Sets.{bit, ◌are_in◌, same?, NoRole}
+use Rattle.sets.proofs.Bools.{not_so}
 use Rattle.sets.proofs.Digits.{bit_zero}
 use Rattle.sets.proofs.Laws.{same_eq, same_self}
 use Rattle.sets.proofs.Members.{Taken, taken_part}
@@ -54,27 +55,9 @@ marking_turn {up} {marked} {s} {x} {rest} {y} {rest'} v turn inv h = record {
   part = λ w e. inv.part w (taken_part turn w e);
   members = λ w z. row_set marked y v w (subst (λ (n : ℕ). y < n) (sym inv.rows) turn.lowest.role)
       (λ r. bit r z ≡ (bit (row up w) z || ((bit s w && not (bit rest' w)) && same? x z)))
-      (λ e. subst (λ (k : ℕ). bit v z ≡ (bit (row up k) z || ((bit s k && not (bit rest' k)) && same? x z))) (sym e) (here z))
-      (λ n. inv.members w z ∙ ap (λ (p : Bool). bit (row up w) z || ((bit s w && not p) && same? x z)) (sym (left w n)));
+      (λ e. grind (arith, e, h z, inv.members y z, inv.part y turn.lowest.member, turn.lowest.member, turn.rest_is y, same_self y turn.lowest.role))
+      (λ n. grind (arith, inv.members w z, turn.rest_is w, not_so (same? y w) (λ e. n (same_eq y w e))));
 }
-  where
-    gone : bit rest' y ≡ false
-    gone = turn.rest_is y ∙ ap (λ (p : Bool). bit rest y && not p) (same_self y turn.lowest.role) ∙ and-false (bit rest y)
-
-    left : (w : ℕ) → w ≢ y → bit rest' w ≡ bit rest w
-    left w n = turn.rest_is w ∙ ap (λ (p : Bool). bit rest w && not p) (not_so (same? y w) (λ e. n (same_eq y w e))) ∙ and-true (bit rest w)
-
-    absorb : (u p : Bool) → ((u || (false && p)) || p) ≡ (u || (true && p))
-    absorb true p = refl
-    absorb false p = refl
-
-    here : (z : ℕ) → bit v z ≡ (bit (row up y) z || ((bit s y && not (bit rest' y)) && same? x z))
-    here z =
-        h z
-        ∙ ap (λ (q : Bool). q || same? x z) (inv.members y z)
-        ∙ ap (λ (q : Bool). (bit (row up y) z || (q && same? x z)) || same? x z) (ap₂ (λ (p q : Bool). p && not q) (inv.part y turn.lowest.member) turn.lowest.member)
-        ∙ absorb (bit (row up y) z) (same? x z)
-        ∙ sym (ap (λ (q : Bool). bit (row up y) z || (q && same? x z)) (ap₂ (λ (p q : Bool). p && not q) (inv.part y turn.lowest.member) gone))
 
 -- ---- a table turned round
 
@@ -95,35 +78,13 @@ pub turning_turn : {live rest x rest' : ℕ} {down up up' : List ℕ} → Taken 
 turning_turn {live} {rest} {x} {rest'} {down} {up} {up'} turn inv mark = record {
   rows = mark.rows;
   part = λ y e. inv.part y (taken_part turn y e);
-  members = λ z y. mark.members y z ∙ ap (λ (p : Bool). p || (bit (row down x) y && same? x z)) (inv.members z y) ∙ go z y (same? x z) refl;
+  members = λ z y. dite (ℕ_discrete z x)
+      (λ e. grind (arith, e, mark.members y x, inv.members x y, inv.part x turn.lowest.member, turn.lowest.member, turn.rest_is x, same_self x turn.lowest.role))
+      (λ n. grind (arith, mark.members y z, inv.members z y, turn.rest_is z, not_so (same? x z) (λ e. n (same_eq x z e))));
 }
-  where
-    drop : (l r d w : Bool) → (((l && not r) && d) || (w && false)) ≡ ((l && not (r && true)) && d)
-    drop l r d w = ap (λ (p : Bool). ((l && not r) && d) || p) (and-false w) ∙ or-false ((l && not r) && d) ∙ ap (λ (p : Bool). (l && not p) && d) (sym (and-true r))
-
-    go : (z y : ℕ) (p : Bool) → same? x z ≡ p
-        → (((bit live z && not (bit rest z)) && bit (row down z) y) || (bit (row down x) y && p)) ≡ ((bit live z && not (bit rest' z)) && bit (row down z) y)
-    go z y false e =
-        drop (bit live z) (bit rest z) (bit (row down z) y) (bit (row down x) y)
-        ∙ ap (λ (p : Bool). (bit live z && not p) && bit (row down z) y) (sym (turn.rest_is z ∙ ap (λ (q : Bool). bit rest z && not q) e))
-    go z y true e =
-        let z-is : z ≡ x = same_eq x z e in
-        let in_rest : z is_in rest = subst (λ (n : ℕ). n is_in rest) (sym z-is) turn.lowest.member in
-        ap (λ (p : Bool). ((bit live z && not p) && bit (row down z) y) || (bit (row down x) y && true)) in_rest
-        ∙ ap (λ (p : Bool). (p && bit (row down z) y) || (bit (row down x) y && true)) (and-false (bit live z))
-        ∙ and-true (bit (row down x) y)
-        ∙ ap (λ (k : ℕ). bit (row down k) y) (sym z-is)
-        ∙ sym (ap (λ (p : Bool). (p && not (bit rest' z)) && bit (row down z) y) (inv.part z in_rest)
-        ∙ ap (λ (p : Bool). not p && bit (row down z) y) (turn.rest_is z ∙ ap (λ (q : Bool). bit rest z && not q) e ∙ and-false (bit rest z)))
 
 pub turning_end : {live rest : ℕ} {down up : List ℕ} → NoRole rest → Turning live down up rest → Turned live down up
 turning_end {live} {rest} {down} {up} empty inv = record {
-  up_is = λ x y. (
-    λ e. let p = sym (members x y) ∙ e in (and_left (bit live x) (bit (row down x) y) p, and_right (bit live x) (bit (row down x) y) p),
-    λ m. members x y ∙ and_both (bit live x) (bit (row down x) y) m.0 m.1,
-  );
+  up_is = λ x y. (λ e. grind (arith, e, inv.members x y, empty.none x), λ m. grind (arith, m.0, m.1, inv.members x y, empty.none x));
   up_rows = inv.rows;
 }
-  where
-    members : (x y : ℕ) → bit (row up y) x ≡ (bit live x && bit (row down x) y)
-    members x y = inv.members x y ∙ ap (λ (p : Bool). p && bit (row down x) y) (ap (λ (q : Bool). bit live x && not q) (empty.none x) ∙ and-true (bit live x))

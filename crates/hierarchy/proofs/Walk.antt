@@ -1,6 +1,6 @@
 -- What roles lead to, settled from the juniors up. Assumes nothing.
 use mathlib.Core.Path.{◌≡◌, refl, sym, ap, ◌∙◌, subst}
-use mathlib.Core.Bool.{true, false, not, ◌&&◌, ◌||◌}
+use mathlib.Core.Bool.{Bool, true, false, not, ◌&&◌, ◌||◌}
 use mathlib.Core.Logic.{◌⊎◌, inl, inr, ⊎_elim, ⊎_map, ◌↔◌, ◌≢◌, dite}
 use mathlib.Core.List.{List}
 use Prim.Native.Nat.{ℕ, zero, suc, ◌+◌, ◌-◌, ◌^◌, ◌≤◌, ◌<◌}
@@ -9,7 +9,7 @@ use native.Mathlib.Omega.{arith}
 use lib.Count.{ones, ones-le}
 use lib.ListN.{length, set, length-set, replicate}
 use Rattle.sets.specs.Sets.{bit, ◌is_in◌, ◌are_in◌, same?, NoRole}
-use Rattle.sets.proofs.Bools.{true_or_false, or_cases, or_left, or_right, and_left, and_right, and_both, false_no, not_so}
+use Rattle.sets.proofs.Bools.{true_or_false, or_cases, or_left, false_no}
 use Rattle.sets.proofs.Digits.{bit_zero}
 use Rattle.sets.proofs.Laws.{bit_lt, same_eq, same_self, same_members, ones_mono, ones_more}
 use Rattle.sets.proofs.Members.{Drawn, drawn_less, drawn_part, drawn_kept, Taken, taken_part, taken_kept}
@@ -37,10 +37,7 @@ pub gather_turn : {table : List ℕ} {s sum rest y rest' : ℕ} (sum' : ℕ) →
 gather_turn {table} {s} {sum} {rest} {y} sum' turn inv sum_is_lem = record {
   part = λ x e. inv.part x (taken_part turn x e);
   only = λ z e. ⊎_elim (inv.only z) (λ d. record { of = y; member = inv.part y turn.lowest.member; on = d }) (or_cases (bit sum z) (bit (row table y) z) (sym (sum_is_lem z) ∙ e));
-  every = λ x z e d. ⊎_elim
-      (λ r. ⊎_map (λ k. k) (λ q. sum_is_lem z ∙ or_right (bit sum z) (bit (row table y) z) (subst (λ (n : ℕ). z is_in row table n) q d)) (taken_kept turn x r))
-      (λ f. inr (sum_is_lem z ∙ or_left (bit sum z) (bit (row table y) z) f))
-      (inv.every x z e d);
+  every = λ x z e d. grind (arith, inv.every x z e d, taken_kept turn x, sum_is_lem z, d);
 }
 
 -- ---- one role is settled in one table
@@ -51,8 +48,8 @@ settled_is {table} {reach} {x} {own} below r l rows below-is r-is = record {
   rows = length-set reach x r ∙ rows;
   is = row_set reach x r x in_range (λ (w : ℕ). w ≡ r) (λ _. refl) (λ n. absurd (n refl));
   here = λ z. (
-    λ e. ⊎_map (λ d. d) (below-is z).0 (or_cases (bit own z) (bit below z) (sym (r-is z) ∙ e)),
-    λ s. r-is z ∙ ⊎_elim (or_left (bit own z) (bit below z)) (λ d. or_right (bit own z) (bit below z) ((below-is z).1 d)) s,
+    λ e. grind (arith, e, r-is z, (below-is z).0),
+    λ s. grind (arith, s, r-is z, (below-is z).1),
   );
   others = λ y n. row_set reach x r y in_range (λ (w : ℕ). w ≡ row reach y) (λ q. absurd (n q)) (λ _. refl);
 }
@@ -94,10 +91,10 @@ module _ {table : List ℕ} {Own : ℕ → ℕ → Type 0} where
     right = λ y e. dite (ℕ_discrete y x)
         (λ q z. subst (λ (n : ℕ). (z is_in row reach' n) ↔ Spread table Own n z) (sym q) (subst (λ (w : ℕ). (z is_in w) ↔ Spread table Own x z) (sym set.is) (here z)))
         (λ n z. subst (λ (w : ℕ). (z is_in w) ↔ Spread table Own y z) (sym (set.others y n))
-        (inv.right y (⊎_elim (λ d. d) (λ s. absurd (n (same_eq x y s))) (or_cases (bit done y) (same? x y) (sym (done_is y) ∙ e))) z));
+        (inv.right y (grind (arith, e, n, done_is y, same_eq x y)) z));
     blank = λ y e. dite (ℕ_discrete y x)
-        (λ q. absurd (false_no e (done_is y ∙ or_right (bit done y) (same? x y) (ap (same? x) q ∙ same_self x l))))
-        (λ n. set.others y n ∙ inv.blank y (not_so (bit done y) (λ d. false_no e (done_is y ∙ or_left (bit done y) (same? x y) d))));
+        (λ q. absurd (grind (arith, e, q, done_is y, same_self x l)))
+        (λ n. set.others y n ∙ inv.blank y (grind (arith, e, done_is y)));
   }
 
 -- ---- a way down from a role that is done stays among the done
@@ -140,13 +137,17 @@ finished {t} {kept} {done = done} {x} one r s done' ready one-is i-set a-set don
     right = ready.right
 
     now : (y : ℕ) → y is_in done' → (y is_in done) ⊎ (y ≡ x)
-    now y e = ⊎_map (λ m. m) (same_eq x y) (or_cases (bit done y) (same? x y) (sym (done_is y) ∙ e))
+    now y e = grind (arith, e, done_is y, same_eq x y)
 
     i_here : (z : ℕ) → (z is_in r) ↔ ByI t.i x z
     i_here = settled_right right.i_rows (λ y e. ready.below y (inl e))
-        (λ z. (λ e. sym (same_eq x z (sym (one-is z) ∙ e)), λ q. one-is z ∙ ap (same? x) (sym q) ∙ same_self x ready.role)) i-set
+        (λ z. (λ e. grind (arith, e, one-is z, same_eq x z), λ q. grind (arith, q, one-is z, same_self x ready.role))) i-set
 
 -- ---- the walk down from a root
+
+-- a junior by I or by A that isn't left is done
+waits_not : {i a both left done : Bool} → both ≡ (i || a) → left ≡ (both && not done) → left ≡ false → (i ≡ true) ⊎ (a ≡ true) → done ≡ true
+waits_not b l n d = grind (arith, b, l, n, d)
 
 -- v is on the path, whose last place is above
 abbrev OnPath : List ℕ → ℕ → ℕ → Type 0
@@ -183,17 +184,17 @@ walk_start {t} {kept} {start} {root} left fresh f l s left_is fresh-is = record 
   so_far = longer_so_far 0 root s.so_far;
   more = λ x e. e;
   room = omega (arith, drawn_less drawn, ones-le 64 left l);
-  unmet = λ x e. and_left (bit t.live x) (not (bit start x)) (sym (left_is x) ∙ drawn_part drawn x e);
+  unmet = λ x e. grind (arith, e, left_is x, fresh-is x);
   top = first;
   on = λ k n. subst (λ (w : ℕ). row (set kept.manager 0 root) w is_in t.live) (omega arith) (subst (λ (w : ℕ). w is_in t.live) (sym first) s.alive);
   linked = λ k n. absurd (omega arith);
   whole = λ v e. ⊎_elim (λ d. inl d)
-      (λ n. inr (⊎_map (λ m. m) (λ q. (0, omega arith, first ∙ sym q)) (drawn_kept drawn v (left_is v ∙ and_both (bit t.live v) (not (bit start v)) e (ap not n)))))
+      (λ n. inr (⊎_map (λ m. m) (λ q. (0, omega arith, first ∙ sym q)) (drawn_kept drawn v (grind (arith, e, n, left_is v)))))
       (true_or_false (bit start v));
 }
   where
     drawn : Drawn left root fresh
-    drawn = record { role = bit_lt 64 f s.alive; member = left_is root ∙ and_both (bit t.live root) (not (bit start root)) s.alive (ap not s.fresh); rest_is = fresh-is }
+    drawn = record { role = bit_lt 64 f s.alive; member = grind (arith, s.alive, s.fresh, left_is root); rest_is = fresh-is }
 
     first : row (set kept.manager 0 root) 0 ≡ root
     first = row_set kept.manager 0 root 0 (subst (λ (n : ℕ). 0 < n) (sym s.so_far.places) (omega arith)) (λ (w : ℕ). w ≡ root) (λ _. refl) (λ n. absurd (n refl))
@@ -215,14 +216,14 @@ module _ {t : Tables} {start root : ℕ} {kept : Kept} {done fresh above : ℕ} 
   -- left are the juniors of its last role that aren't done
   module _ (both left : ℕ) (both_is : (y : ℕ) → bit both y ≡ (bit (row t.i x) y || bit (row t.a x) y)) (left_is : (y : ℕ) → bit left y ≡ (bit both y && not (bit done y))) where
     junior : (y : ℕ) → y is_in left → Entry t.i t.a x y
-    junior y e = or_cases (bit (row t.i x) y) (bit (row t.a x) y) (sym (both_is y) ∙ and_left (bit both y) (not (bit done y)) (sym (left_is y) ∙ e))
+    junior y e = grind (arith, e, left_is y, both_is y)
 
     -- In order they are fresh: one that isn't would be on the path, or not live.
     all_fresh : InOrder t → left are_in fresh
     all_fresh o y e =
         let edge = (edge_entry t x y).1 (junior y e) in
         let alive = settles_live (settles_junior (o x (inv.on above (omega arith))) edge) in
-        ⊎_elim (λ d. absurd (false_no (ap not d) (and_right (bit both y) (not (bit done y)) (sym (left_is y) ∙ e))))
+        ⊎_elim (λ d. absurd (grind (arith, d, e, left_is y)))
         (⊎_elim (λ m. m) (λ p. absurd (order_no_loop o (y, (alive, subst (λ (v : ℕ). Reaches t v y) p.2 (over edge (leads above p.0 (omega arith) p.1)))))))
         (inv.whole y alive)
 
@@ -256,22 +257,19 @@ module _ {t : Tables} {start root : ℕ} {kept : Kept} {done fresh above : ℕ} 
     walk_ready empty = record {
       right = inv.so_far.right;
       role = walk_role;
-      below = λ y d. ⊎_elim (λ m. m)
-          (λ n. absurd (false_no (empty.none y) (left_is y ∙ and_both (bit both y) (not (bit done y))
-          (both_is y ∙ ⊎_elim (or_left (bit (row t.i x) y) (bit (row t.a x) y)) (or_right (bit (row t.i x) y) (bit (row t.a x) y)) d) (ap not n))))
-          (true_or_false (bit done y));
+      below = λ y d. waits_not (both_is y) (left_is y) (empty.none y) d;
     }
 
   -- the last role of the path is settled
   module _ {kept' : Kept} (done' : ℕ) (fin : Finished t kept kept' done x done') where
     grown : done are_in done'
-    grown y e = fin.done_is y ∙ or_left (bit done y) (same? x y) e
+    grown y e = grind (arith, e, fin.done_is y)
 
     here : x is_in done'
-    here = fin.done_is x ∙ or_right (bit done x) (same? x x) (same_self x walk_role)
+    here = grind (arith, fin.done_is x, same_self x walk_role)
 
     alive : done' are_in t.live
-    alive y e = ⊎_elim (inv.so_far.part y) (λ q. subst (λ (w : ℕ). w is_in t.live) (sym (same_eq x y q)) (inv.on above (omega arith))) (or_cases (bit done y) (same? x y) (sym (fin.done_is y) ∙ e))
+    alive y e = grind (arith, e, inv.so_far.part y, fin.done_is y, same_eq x y, inv.on above (omega arith))
 
     settled : SoFar t kept' done'
     settled = record { right = fin.right; part = alive; places = ap length fin.path_is ∙ inv.so_far.places }
@@ -330,7 +328,7 @@ module _ {t : Tables} {kept : Kept} (right : Right t kept t.live) where
     down_rows = λ _. right.a_rows.rows;
     down_is = λ _ x z. ⊎_elim
         (λ m. of_live x m z)
-        (λ n. (λ e. absurd (false_no (ap (λ (w : ℕ). bit w z) (right.a_rows.blank x n) ∙ bit_zero z) e), λ d. absurd (false_no n d.from)))
+        (λ n. (λ e. absurd (grind (arith, e, right.a_rows.blank x n, bit_zero z)), λ d. absurd (false_no n d.from)))
         (true_or_false (bit t.live x));
   }
 
@@ -344,8 +342,7 @@ module _ {t : Tables} {kept : Kept} {done : ℕ} (inv : SoFar t kept done) where
         all : done ≡ t.live
         all = same_members done t.live (λ x. (
           inv.part x,
-          λ l. ⊎_elim (λ m. m)
-              (λ n. absurd (false_no (empty.none x) (left_is x ∙ and_both (bit t.live x) (not (bit done x)) l (ap not n)))) (true_or_false (bit done x)),
+          λ l. grind (arith, l, empty.none x, left_is x),
         ))
 
 module _ {t : Tables} {kept : Kept} {done root r : ℕ} (walk : Descended t kept done root r) where
