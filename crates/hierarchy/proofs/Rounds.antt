@@ -1,5 +1,5 @@
 -- Entries that join live roles, row by row. Assumes nothing.
-use mathlib.Core.Path.{◌≡◌, refl, sym, ◌∙◌}
+use mathlib.Core.Path.{◌≡◌, refl}
 use mathlib.Core.Bool.{Bool, true, false, ◌||◌}
 use mathlib.Core.Logic.{◌⊎◌, ⊎_elim, ◌↔◌}
 use mathlib.Core.List.{List}
@@ -7,7 +7,7 @@ use Prim.Native.Nat.{ℕ, ◌≤◌, ◌<◌}
 use native.Mathlib.Omega.{arith}
 use lib.ListN.{length}
 use Rattle.sets.specs.Sets.{bit, ◌is_in◌}
-use Rattle.sets.proofs.Bools.{or_cases, or_left, or_right, false_no, lt_or_ge}
+use Rattle.sets.proofs.Bools.{false_no, lt_or_ge}
 use Rattle.hierarchy.specs.Tables.{tables, row}
 use Rattle.hierarchy.specs.Words.{Joined}
 use Rattle.hierarchy.proofs.Derive.{edge_entry}
@@ -20,7 +20,7 @@ LiveRow live x juniors = (y : ℕ) → y is_in juniors → (x is_in live) × (y 
 pub joined_no : (live x : ℕ) (i a : List ℕ) (both : ℕ) (w : Bool) → ((y : ℕ) → bit both y ≡ (bit (row i x) y || bit (row a x) y))
     → (w ≡ true) ↔ LiveRow live x both → w ≡ false → (false ≡ true) ↔ Joined (tables live i a)
 joined_no live x i a both w both_is test e = no_iff (λ j. false_no e (test.1 (λ y m.
-    j x y ((edge_entry (tables live i a) x y).1 (or_cases (bit (row i x) y) (bit (row a x) y) (sym (both_is y) ∙ m))))))
+    j x y ((edge_entry (tables live i a) x y).1 (grind (arith, m, both_is y))))))
 
 -- the rows below n are right
 abbrev pub Joined-below : ℕ → List ℕ → List ℕ → ℕ → Type 0
@@ -29,7 +29,7 @@ Joined-below live i a n = (x : ℕ) → x < n → (y : ℕ) → (y is_in row i x
 pub joined_row : (live x : ℕ) (i a : List ℕ) (both : ℕ) (w : Bool) → ((y : ℕ) → bit both y ≡ (bit (row i x) y || bit (row a x) y))
     → (w ≡ true) ↔ LiveRow live x both → w ≡ true → (y : ℕ) → (y is_in row i x) ⊎ (y is_in row a x) → (x is_in live) × (y is_in live)
 joined_row live x i a both w both_is test e y d =
-    test.0 e y (both_is y ∙ ⊎_elim (or_left (bit (row i x) y) (bit (row a x) y)) (or_right (bit (row i x) y) (bit (row a x) y)) d)
+    test.0 e y (grind (arith, d, both_is y))
 
 pub joined_yes : (live n : ℕ) (i a : List ℕ) → length i ≡ 64 → length a ≡ 64 → 64 ≤ n → Joined-below live i a n → (true ≡ true) ↔ Joined (tables live i a)
 joined_yes live n i a li la l below = (

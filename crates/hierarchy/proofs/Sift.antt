@@ -1,11 +1,11 @@
 -- A loop that keeps those members of a set that pass a test. Assumes nothing.
-use mathlib.Core.Path.{◌≡◌, sym, ◌∙◌, subst}
+use mathlib.Core.Path.{◌≡◌, sym, subst}
 use mathlib.Core.Bool.{◌||◌}
 use mathlib.Core.Logic.{◌⊎◌, inl, inr, ⊎_elim}
 use Prim.Native.Nat.{ℕ}
 use native.Mathlib.Omega.{arith}
 use Rattle.sets.specs.Sets.{bit, ◌is_in◌, ◌are_in◌, same?}
-use Rattle.sets.proofs.Bools.{or_cases, false_no}
+use Rattle.sets.proofs.Bools.{false_no}
 use Rattle.sets.proofs.Digits.{bit_zero}
 use Rattle.sets.proofs.Laws.{same_eq, same_self}
 use Rattle.sets.proofs.Members.{Taken, taken_part, taken_kept}
@@ -25,7 +25,7 @@ module _ {P : ℕ → Type 0} {s found rest x rest' : ℕ} (turn : Taken rest x 
     part = λ y e. inv.part y (taken_part turn y e);
     only = λ y e. ⊎_elim (λ f. inv.only y f)
         (λ q. subst (λ (n : ℕ). (n is_in s) × P n) (sym (same_eq x y q)) (inv.part x turn.lowest.member, p))
-        (or_cases (bit found y) (same? x y) (sym (h y) ∙ e));
+        (grind (arith, e, h y));
     every = λ y e q. grind (arith, inv.every y e q, taken_kept turn y, h y, same_self x turn.lowest.role);
   }
 

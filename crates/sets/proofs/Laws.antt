@@ -14,7 +14,7 @@ use lib.Count.{ones, ones_step, count_trailing_zeros, under, count_leading_zeros
 use borrow.Author.Tests.{lt-ltb, le-ltb, eqb-true, eqb-false, eq-eqb}
 use Rattle.sets.specs.Sets.{bit, ◌is_in◌, ◌are_in◌, same?, num, set_of, LowestRole, NoRole, Lowest, ButLowest, HighestRole, Highest}
 use Rattle.std.specs.Prelude.{Option, Some, None}
-use Rattle.sets.proofs.Bools.{true_or_false, and_left, and_both, lt_or_ge, false_no, not_so, iff_same}
+use Rattle.sets.proofs.Bools.{true_or_false, and_left, lt_or_ge, false_no, not_so, iff_same}
 use Rattle.sets.proofs.Digits.{two_pos, bit_low, bit_high, bit_zero, bit_out, bit_of_and, bit_not, bit_pow, low_num, half_lt, digits_fit, bit_digits}
 
 -- ---- members are roles; sets with the same members are equal
@@ -90,13 +90,8 @@ bit_shift r x l =
 -- a set whose difference from t is empty is a part of t, and the other way round
 pub minus_part : (s t d : ℕ) → d < 2 ^ 64 → ((x : ℕ) → bit d x ≡ (bit s x && not (bit t x))) → (eqb d 0 ≡ true) ↔ (s are_in t)
 minus_part s t d h e = (
-  λ z x m. ⊎_elim (λ y. y)
-      (λ n. let w : bit d x ≡ true = e x ∙ and_both (bit s x) (not (bit t x)) m (ap not n) in cc (bit_zero x, ap (λ (k : ℕ). bit k x) (eqb-true d 0 z)))
-      (true_or_false (bit t x)),
-  λ f. eq-eqb d 0 (no_members_lem d h (λ x. e x ∙ ⊎_elim
-      (λ m. ap (λ (p : Bool). bit s x && not p) (f x m) ∙ and-false (bit s x))
-      (λ n. ap (λ (p : Bool). p && not (bit t x)) n)
-      (true_or_false (bit s x)))),
+  λ z x m. grind (arith, m, e x, bit_zero x, eqb-true d 0 z),
+  λ f. eq-eqb d 0 (no_members_lem d h (λ x. grind (arith, e x, f x))),
 )
 
 -- 0 has no role
@@ -227,7 +222,7 @@ ones_less s t r l m e =
     ones_more t s r
     (e r ∙ ap (λ (p : Bool). bit s r && not p) (same_self r l) ∙ and-false (bit s r))
     m
-    (λ x d. and_left (bit s x) (not (same? r x)) (sym (e x) ∙ d))
+    (λ x d. grind (arith, d, e x))
 
 -- the members of s but r
 abbrev pub but : ℕ → ℕ → ℕ

@@ -1,13 +1,13 @@
 -- A loop that takes the roles of a set one by one, the lowest first. Assumes nothing.
-use mathlib.Core.Path.{◌≡◌, sym, ap, ◌∙◌, subst}
-use mathlib.Core.Bool.{Bool, false, not, ◌&&◌, and-true}
-use mathlib.Core.Logic.{◌⊎◌, inl, inr, ⊎_elim}
+use mathlib.Core.Path.{◌≡◌, subst}
+use mathlib.Core.Bool.{false, not, ◌&&◌}
+use mathlib.Core.Logic.{◌⊎◌}
 use Prim.Native.Nat.{ℕ, ◌<◌}
+use native.Mathlib.Omega.{arith}
 use lib.Count.{ones}
 use Rattle.sets.specs.Sets.{bit, ◌is_in◌, ◌are_in◌, same?, LowestRole, NoRole, Lowest, ButLowest}
 pub use Rattle.sets.specs.Sets.{Taken}
 use Rattle.std.specs.Prelude.{Option, Some, None}
-use Rattle.sets.proofs.Bools.{true_or_false, and_left, and_both}
 use Rattle.sets.proofs.Laws.{same_eq, ones_less}
 
 -- one turn: the role x of rest goes
@@ -21,21 +21,15 @@ module _ {rest x rest' : ℕ} (t : Drawn rest x rest') where
   drawn_less = ones_less rest rest' x t.role t.member t.rest_is
 
   pub drawn_part : rest' are_in rest
-  drawn_part y e = and_left (bit rest y) (not (same? x y)) (sym (t.rest_is y) ∙ e)
+  drawn_part y e = grind (arith, e, t.rest_is y)
 
   -- what is left out of rest' was left out of rest, or is x
   pub drawn_cases : (y : ℕ) → bit rest' y ≡ false → (bit rest y ≡ false) ⊎ (y ≡ x)
-  drawn_cases y e = ⊎_elim
-      (λ s. inr (same_eq x y s))
-      (λ n. inl (sym (t.rest_is y ∙ ap (λ (p : Bool). bit rest y && not p) n ∙ and-true (bit rest y)) ∙ e))
-      (true_or_false (same? x y))
+  drawn_cases y e = grind (arith, e, t.rest_is y, same_eq x y)
 
   -- what was in rest is in rest', or is x
   pub drawn_kept : (y : ℕ) → y is_in rest → (y is_in rest') ⊎ (y ≡ x)
-  drawn_kept y e = ⊎_elim
-      (λ s. inr (same_eq x y s))
-      (λ n. inl (t.rest_is y ∙ and_both (bit rest y) (not (same? x y)) e (ap not n)))
-      (true_or_false (same? x y))
+  drawn_kept y e = grind (arith, e, t.rest_is y, same_eq x y)
 
 -- x is the lowest role of a part of rest
 pub drawn_by : {part rest x rest' : ℕ} → LowestRole part x → part are_in rest → ((y : ℕ) → bit rest' y ≡ (bit rest y && not (same? x y))) → Drawn rest x rest'
