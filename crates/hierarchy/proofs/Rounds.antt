@@ -26,11 +26,6 @@ joined_no live x i a both w both_is test e = no_iff (λ j. false_no e (test.1 (�
 abbrev pub Joined-below : ℕ → List ℕ → List ℕ → ℕ → Type 0
 Joined-below live i a n = (x : ℕ) → x < n → (y : ℕ) → (y is_in row i x) ⊎ (y is_in row a x) → (x is_in live) × (y is_in live)
 
-pub joined_row : (live x : ℕ) (i a : List ℕ) (both : ℕ) (w : Bool) → ((y : ℕ) → bit both y ≡ (bit (row i x) y || bit (row a x) y))
-    → (w ≡ true) ↔ LiveRow live x both → w ≡ true → (y : ℕ) → (y is_in row i x) ⊎ (y is_in row a x) → (x is_in live) × (y is_in live)
-joined_row live x i a both w both_is test e y d =
-    test.0 e y (grind (arith, d, both_is y))
-
 pub joined_yes : (live n : ℕ) (i a : List ℕ) → length i ≡ 64 → length a ≡ 64 → 64 ≤ n → Joined-below live i a n → (true ≡ true) ↔ Joined (tables live i a)
 joined_yes live n i a li la l below = (
   λ _ x y h.
