@@ -1,6 +1,6 @@
 -- The loop over edge records: k of them are read, and i and a are the tables that they name. Assumes nothing.
 use mathlib.Core.Path.{◌≡◌, refl, sym, ap, ap₂, ◌∙◌, subst}
-use mathlib.Core.Bool.{Bool, false, not, ◌&&◌, ◌||◌, and-true, and-false, or-false}
+use mathlib.Core.Bool.{Bool, false, ◌&&◌, ◌||◌, and-true, and-false, or-false}
 use mathlib.Core.Logic.{◌⊎◌, inl, inr, ⊎_elim, ◌≢◌, dite}
 use mathlib.Core.List.{List, [], ◌∷◌, ◌++◌}
 use Prim.Native.Nat.{ℕ, zero, suc, ◌+◌, ◌-◌, ◌*◌, ◌/◌, ◌%◌, ◌^◌, ◌≤◌, ◌<◌, zero-le}
@@ -8,7 +8,7 @@ use native.Mathlib.Decide.{ℕ_discrete}
 use native.Mathlib.Nat.{zero-add, add-zero, add_assoc, le_antisymm}
 use native.Mathlib.Numerals.{add-one, towards_suc}
 use native.Mathlib.Omega.{arith}
-use lib.Dec.{eqb, lit<}
+use lib.Dec.{lit<}
 use lib.ListN.{length, take, drop, set, replicate, length-set, length-replicate, length-append, length-drop, get_or-append}
 use lib.Seq.{take-add, drop-drop, drop_at, get_or-take, get_or-drop, length-take-le, get_or-set_same, get_or-set_other}
 use Rattle.sets.specs.Sets.{bit, ◌is_in◌, same?}
@@ -50,7 +50,7 @@ module _ (t : List ℕ) (s j u : ℕ) (part : Bool) (l : s < length t) (grown : 
   }
 
 -- the kinds 1, 2 and 3 are settled by their parts
-parts : (k : ℕ) → 1 ≤ k → k ≤ 3 → kind_of (not (eqb k 2)) (not (eqb k 1)) ≡ k
+parts : (k : ℕ) → 1 ≤ k → k ≤ 3 → kind_of (has_i k) (has_a k) ≡ k
 parts zero a b = absurd (omega arith)
 parts (suc zero) a b = refl
 parts (suc (suc zero)) a b = refl
@@ -62,14 +62,14 @@ elsewhere : (e s j : ℕ) → e ≢ s * 64 + j → (e / 64 ≢ s) ⊎ (e % 64 �
 elsewhere e s j n = dite (ℕ_discrete (e / 64) s) (λ (q : e / 64 ≡ s). inr (λ (r : e % 64 ≡ j). n (omega arith))) inl
 
 module _ (live : ℕ) (i a : List ℕ) (s j k u v : ℕ) (li : s < length i) (la : s < length a)
-    (ui : (y : ℕ) → bit u y ≡ (bit (row i s) y || (not (eqb k 2) && same? j y)))
-    (va : (y : ℕ) → bit v y ≡ (bit (row a s) y || (not (eqb k 1) && same? j y)))
+    (ui : (y : ℕ) → bit u y ≡ (bit (row i s) y || (has_i k && same? j y)))
+    (va : (y : ℕ) → bit v y ≡ (bit (row a s) y || (has_a k && same? j y)))
   where
     kinds_kept : (e : ℕ) → e ≢ s * 64 + j → kind_at (tables live (set i s u) (set a s v)) e ≡ kind_at (tables live i a) e
     unfolding kind_at kind
     kinds_kept e n =
         let w = elsewhere e s j n in
-        ap₂ kind_of (entry_kept i s j u (not (eqb k 2)) li ui (e / 64) (e % 64) w) (entry_kept a s j v (not (eqb k 1)) la va (e / 64) (e % 64) w)
+        ap₂ kind_of (entry_kept i s j u (has_i k) li ui (e / 64) (e % 64) w) (entry_kept a s j v (has_a k) la va (e / 64) (e % 64) w)
 
     kind_made : j < 64 → 1 ≤ k → k ≤ 3 → kind_at (tables live i a) (s * 64 + j) ≡ 0 → kind_at (tables live (set i s u) (set a s v)) (s * 64 + j) ≡ k
     unfolding kind_at kind
@@ -79,8 +79,8 @@ module _ (live : ℕ) (i a : List ℕ) (s j k u v : ℕ) (li : s < length i) (la
         let old : kind (tables live i a) s j ≡ 0 = ap₂ (kind (tables live i a)) (sym sq) (sym jq) ∙ none in
         rw (sq, jq)
         (ap₂ kind_of
-        (entry_made i s j u (not (eqb k 2)) li ui m (bit_i (tables live i a) s j ∙ ap has_i old))
-        (entry_made a s j v (not (eqb k 1)) la va m (bit_a (tables live i a) s j ∙ ap has_a old))
+        (entry_made i s j u (has_i k) li ui m (bit_i (tables live i a) s j ∙ ap has_i old))
+        (entry_made a s j v (has_a k) la va m (bit_a (tables live i a) s j ∙ ap has_a old))
         ∙ parts k low high)
 
 -- ---- three bytes more
@@ -128,7 +128,6 @@ module _ {f : List ℕ} {n m k : ℕ} {x left : List ℕ} (room : n + 3 * m ≤ 
     senior_is = spelt.senior_is ∙ chunk_byte 0 (lit< tt) ∙ ap (byte f) (add-zero (n + 3 * k));
     junior_is = spelt.junior_is ∙ chunk_byte 1 (lit< tt);
     kind_is = spelt.kind_is ∙ chunk_byte 2 (lit< tt);
-    small = spelt.small;
   }
 
   pub chunk_left : left ≡ records_from f n m (k + 1)
@@ -215,8 +214,8 @@ module _ {f : List ℕ} {n m live k next s j d : ℕ} {i a : List ℕ} (good : A
     junior_fits = bit_lt 64 fits right.junior_lives
 
     record_more : next ≤ s * 64 + j → (u v : ℕ) → u < 2 ^ 64 → v < 2 ^ 64
-        → ((y : ℕ) → bit u y ≡ (bit (row i s) y || (not (eqb d 2) && same? j y)))
-        → ((y : ℕ) → bit v y ≡ (bit (row a s) y || (not (eqb d 1) && same? j y)))
+        → ((y : ℕ) → bit u y ≡ (bit (row i s) y || (has_i d && same? j y)))
+        → ((y : ℕ) → bit v y ≡ (bit (row a s) y || (has_a d && same? j y)))
         → SoFar f n m live (k + 1) (s * 64 + j + 1) (set i s u) (set a s v)
     record_more le u v uf vf ui va = record {
       bytes = record_bytes f n k (omega (arith, good.room)) ∙ ap₂ ◌++◌ inv.bytes last ∙ sym more;
@@ -225,8 +224,8 @@ module _ {f : List ℕ} {n m live k next s j d : ℕ} {i a : List ℕ} (good : A
       next_is = add-one (s * 64 + j) ∙ ap suc (place_is k good spelt) ∙ ap (past (place f)) (sym (add-one k));
       small = omega (arith, senior_small, junior_fits);
       within = omega arith;
-      i_table = table_set i s j u (not (eqb d 2)) (li) ui inv.i_table uf;
-      a_table = table_set a s j v (not (eqb d 1)) (la) va inv.a_table vf;
+      i_table = table_set i s j u (has_i d) (li) ui inv.i_table uf;
+      a_table = table_set a s j v (has_a d) (la) va inv.a_table vf;
     }
       where
         li : s < length i
@@ -299,6 +298,10 @@ pub edges_start : (f : List ℕ) (n m live : ℕ) {i a left : List ℕ} {size : 
     → Going f n m live 0 i a size left
 edges_start f n m live p q three r = record { k = 0; so_far = rw (p, q) (no_record f n m live); three = three; left_is = r }
 
+-- the bytes of a chunk, whatever they spell
+pub spelt_itself : {x : List ℕ} → Spelt x 0 (byte x 0) (byte x 1) (byte x 2)
+spelt_itself = record { senior_is = refl; junior_is = refl; kind_is = refl }
+
 module _ {f : List ℕ} {n m live next size s j d : ℕ} {i a left x : List ℕ} (left' : List ℕ) (good : Announced f n m) (g : Going f n m live next i a size left)
     (taken : (left ≡ x ++ left') × (length x ≡ size)) (spelt : Spelt x 0 s j d) where
   chunk : Chunk f n m g.k x left'
@@ -316,7 +319,7 @@ module _ {f : List ℕ} {n m live next size s j d : ℕ} {i a left x : List ℕ}
   pub edges_wrong : GoodRoles f n live → Wrong live s j d → BadRecord f
   edges_wrong = wrong_record good g.so_far inside there
 
-  pub edges_turn : {size' : ℕ} {i' a' : List ℕ} → live < 2 ^ 64 → Right live s j d → next ≤ s * 64 + j → Grown i s j (not (eqb d 2)) i' → Grown a s j (not (eqb d 1)) a' → size' ≡ size
+  pub edges_turn : {size' : ℕ} {i' a' : List ℕ} → live < 2 ^ 64 → Right live s j d → next ≤ s * 64 + j → Grown i s j (has_i d) i' → Grown a s j (has_a d) a' → size' ≡ size
       → Going f n m live (s * 64 + j + 1) i' a' size' left'
   edges_turn fits right le ui va e = record {
     k = g.k + 1;

@@ -1,7 +1,7 @@
 -- What the steps of the reader promise each other: document 01's fault, or a part of a board.
-use Rattle.std.specs.Prelude.{Result, Ok, Err, ◌≡◌, Bool, true, false, not, ◌&&◌, ◌||◌, ◌≢◌, ◌⊎◌, List, map, ℕ, ◌+◌, ◌*◌, ◌/◌, ◌%◌, ◌^◌, ◌≤◌, ◌<◌, eqb, length, take, drop, set}
+use Rattle.std.specs.Prelude.{Result, Ok, Err, ◌≡◌, Bool, true, false, ◌&&◌, ◌||◌, ◌≢◌, ◌⊎◌, List, map, ℕ, ◌+◌, ◌*◌, ◌/◌, ◌%◌, ◌^◌, ◌≤◌, ◌<◌, length, take, drop, set}
 use Rattle.sets.specs.Sets.{bit, ◌is_in◌, same?}
-use Rattle.hierarchy.specs.Tables.{Tables, row, IsTable}
+use Rattle.hierarchy.specs.Tables.{Tables, row, IsTable, has_i, has_a}
 use Rattle.hierarchy.specs.First.{First}
 use Rattle.board.specs.Rights.{rights_of, founding_rights, RightsFit}
 use Rattle.board.specs.Boards.{tables_of, SoundBoard}
@@ -31,7 +31,6 @@ pub record Spelt (f : List ℕ) (at s j k : ℕ) : Type 0 where
   pub senior_is : s ≡ byte f at
   pub junior_is : j ≡ byte f (at + 1)
   pub kind_is : k ≡ byte f (at + 2)
-  pub small : (s < 256) × (j < 256)
 
 pub record Right (live s j k : ℕ) : Type 0 where
   pub senior_lives : s is_in live
@@ -45,10 +44,6 @@ pub data Wrong (live s j k : ℕ) : Type 0 where
   same : s ≡ j → Wrong live s j k
   unknown : (k < 1) ⊎ (3 < k) → Wrong live s j k
 
-abbrev pub Judged : ℕ → ℕ → ℕ → ℕ → Bool → Type 0
-Judged live s j k true = Right live s j k
-Judged live s j k false = Wrong live s j k
-
 -- a table with j in the row of s besides, where `part`
 pub record Grown (table : List ℕ) (s j : ℕ) (part : Bool) (table' : List ℕ) : Type 0 where
   pub row' : ℕ
@@ -59,8 +54,8 @@ pub record Grown (table : List ℕ) (s j : ℕ) (part : Bool) (table' : List ℕ
 -- the two tables with one edge more
 pub record Entered (t : Tables) (s j k : ℕ) (t' : Tables) : Type 0 where
   pub live_stays : t'.live ≡ t.live
-  pub i_grown : Grown t.i s j (not (eqb k 2)) t'.i
-  pub a_grown : Grown t.a s j (not (eqb k 1)) t'.a
+  pub i_grown : Grown t.i s j (has_i k) t'.i
+  pub a_grown : Grown t.a s j (has_a k) t'.a
 
 -- ---- the m edge records
 

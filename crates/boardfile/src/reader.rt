@@ -1,11 +1,14 @@
 // The records of a board file: role bytes into the set of live roles, edge records into the two tables. Both stand in the order of a
 // number, the role or the place senior * 64 + junior, and `next` is the least that may come.
-ghost use Rattle.std.specs.Prelude.{◌≡◌, ◌&&◌, ◌||◌, ℕ, ◌+◌, ◌*◌, ◌≤◌, ◌<◌, length};
+ghost use Rattle.std.specs.Prelude.{◌≡◌, ◌&&◌, ◌||◌, MatchOption, ℕ, ◌+◌, ◌*◌, ◌≤◌, ◌<◌, length};
 ghost use Rattle.sets.specs.Sets.{bit, same?};
-ghost use Rattle.boardfile.specs.Parts.{Read, Spelt, Judged, Entered, GoodRoles, GoodEdges};
+ghost use Rattle.board.specs.Codes.{kind_number};
+ghost use Rattle.frames.specs.Frames.{byte};
+ghost use Rattle.boardfile.specs.Parts.{Read, Spelt, Right, Wrong, Entered, GoodRoles, GoodEdges};
 ghost use Rattle.frames.specs.Framing.{GoodFrame};
 
 use board::answers::Refusal;
+use board::parts::Kind;
 use frames::Layout;
 use hierarchy::tables::Tables;
 use sets::{has, with};
@@ -47,48 +50,42 @@ impl<'f> Listed<'f> {
 struct Edge {
     senior: usize,
     junior: usize,
-    kind: usize,
+    kind: Kind,
+    ghost in_range: { (senior < 64) × (junior < 64) },
 }
 
 impl Edge {
-    // The edge that three bytes spell.
-    fn spelt(bytes: &[u8]) -> Self
+    // The edge that three bytes spell, where it is right by itself among these live roles.
+    fn spelt(bytes: &[u8], live: u64) -> Option<Edge>
         requires { length bytes.now ≡ 3 }
-        ensures { Spelt bytes.now 0 result.senior result.junior result.kind }
+        ensures { MatchOption result (Wrong live (byte bytes.now 0) (byte bytes.now 1) (byte bytes.now 2)) (λ e. Spelt bytes.now 0 e.senior e.junior (kind_number e.kind) × Right live e.senior e.junior (kind_number e.kind)) }
     {
-        Edge {
-            senior: bytes[0] as usize,
-            junior: bytes[1] as usize,
-            kind: bytes[2] as usize,
+        let kind = Kind::of(u32::from(bytes[2]))?;
+        let senior = bytes[0] as usize;
+        let junior = bytes[1] as usize;
+        if !has(live, senior) || !has(live, junior) || senior == junior {
+            return None;
         }
+        Some(Edge {
+            senior,
+            junior,
+            kind,
+        })
     }
 
     // Its place in the order.
     fn place(self) -> usize
-        requires { (self.senior < 256) × (self.junior < 256) }
         ensures { result ≡ self.senior * 64 + self.junior }
     {
         self.senior * 64 + self.junior
     }
 
-    // Whether it is right by itself, among these live roles.
-    fn is_right(self, live: u64) -> bool
-        ensures { Judged live self.senior self.junior self.kind result }
-    {
-        has(live, self.senior)
-            && has(live, self.junior)
-            && self.senior != self.junior
-            && 1 <= self.kind
-            && self.kind <= 3
-    }
-
     // Puts it into the tables: into either where its kind has the part.
     fn enter(self, t: &mut Tables)
-        requires { self.senior < 64 }
-        ensures { Entered t.old self.senior self.junior self.kind t.new }
+        ensures { Entered t.old self.senior self.junior (kind_number self.kind) t.new }
     {
-        t.i[self.senior] = entered(t.i[self.senior], self.junior, self.kind != 2);
-        t.a[self.senior] = entered(t.a[self.senior], self.junior, self.kind != 1);
+        t.i[self.senior] = entered(t.i[self.senior], self.junior, self.kind.has_i());
+        t.a[self.senior] = entered(t.a[self.senior], self.junior, self.kind.has_a());
     }
 }
 
@@ -111,8 +108,10 @@ pub(crate) fn edges(f: &Listed, t: &mut Tables) -> Result<(), Refusal>
     let start = f.layout.roles;
     let mut next: usize = 0;
     for bytes in f.file[start..start + 3 * f.layout.edges].chunks_exact(3) {
-        let e = Edge::spelt(bytes);
-        if e.place() < next || !e.is_right(f.live) {
+        let Some(e) = Edge::spelt(bytes, t.live) else {
+            return Err(Refusal::BadRecord);
+        };
+        if e.place() < next {
             return Err(Refusal::BadRecord);
         }
         e.enter(t);

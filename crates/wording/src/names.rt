@@ -32,7 +32,7 @@ pub(crate) fn code(text: &[u8]) -> Option<u32>
     Some(place as u32 + 1)
 }
 
-// A kind, 1 to 3.
+// A kind, 1 to 3: a number, since a command has what C hands over.
 pub(crate) fn kind(text: &[u8]) -> Option<u32>
     ensures { result ≡ kind_of text.now }
 {
