@@ -1,4 +1,4 @@
--- A number names one command. Assumes nothing.
+-- A number names one command, and one kind of edge. Assumes nothing.
 use mathlib.Core.Path.{◌≡◌, refl, sym, ap, ◌∙◌}
 use mathlib.Core.Bool.{cond}
 use mathlib.Core.Logic.{◌⊎◌, ⊎_elim}
@@ -6,9 +6,11 @@ use Prim.Native.Nat.{ℕ, ◌<◌}
 use native.Mathlib.Omega.{arith}
 use lib.Dec.{eqb}
 use Rattle.std.specs.Prelude.{Option, Some, None}
-use Rattle.board.specs.Codes.{code_number, IsCode}
+use Rattle.board.specs.Codes.{code_number, IsCode, kind_number, IsKind}
 use Rattle.board.specs.declared.Code.{Code}
 use Rattle.board.specs.declared.Code.TheVariants.{AddRole, RemoveRole, AddEdge, RemoveEdge, ChangeEdge, GiveRights, TakeRights}
+use Rattle.board.specs.declared.parts.Kind.{Kind}
+use Rattle.board.specs.declared.parts.Kind.TheVariants.{I, A, IA}
 
 code_at : ℕ → Code
 code_at n =
@@ -47,3 +49,24 @@ code_unique n (Some j) (Some k) d e = ap Some (one_code (sym d ∙ e))
 code_unique n (Some j) None d e = absurd (code_in j n d e)
 code_unique n None (Some k) d e = absurd (code_in k n e d)
 code_unique n None None d e = refl
+
+kind_at : ℕ → Kind
+kind_at n = cond (eqb n 1) I (cond (eqb n 2) A IA)
+
+kind_back : (k : Kind) → kind_at (kind_number k) ≡ k
+unfolding kind_at
+kind_back I = refl
+kind_back A = refl
+kind_back IA = refl
+
+kind_in : (k : Kind) (n : ℕ) → n ≡ kind_number k → (n < 1) ⊎ (3 < n) → ⊥
+kind_in I n e = ⊎_elim (λ l. omega (arith, e, l)) (λ l. omega (arith, e, l))
+kind_in A n e = ⊎_elim (λ l. omega (arith, e, l)) (λ l. omega (arith, e, l))
+kind_in IA n e = ⊎_elim (λ l. omega (arith, e, l)) (λ l. omega (arith, e, l))
+
+-- and so does what `Kind::of` promises
+pub kind_unique : (n : ℕ) (j k : Option Kind) → IsKind n j → IsKind n k → j ≡ k
+kind_unique n (Some j) (Some k) d e = ap Some (sym (kind_back j) ∙ ap kind_at (sym d ∙ e) ∙ kind_back k)
+kind_unique n (Some j) None d e = absurd (kind_in j n d e)
+kind_unique n None (Some k) d e = absurd (kind_in k n e d)
+kind_unique n None None d e = refl

@@ -4,7 +4,8 @@
 
 ghost use Rattle.std.specs.Prelude.{◌≡◌};
 ghost use Rattle.board.specs.Boards.{founding_board};
-ghost use Rattle.board.specs.Codes.{IsCode};
+ghost use Rattle.hierarchy.specs.Tables.{has_i, has_a};
+ghost use Rattle.board.specs.Codes.{IsCode, IsKind};
 
 pub mod answers;
 pub mod checks;
@@ -15,6 +16,7 @@ mod rights;
 
 use hierarchy::tables::Tables;
 use hierarchy::working::Kept;
+use parts::Kind;
 
 // The two tables of edges, what is kept so that nobody has to work it out again, and the rights. A command leaves what is kept right; a
 // board where it is wrong is not sound. `rights` has a byte for each role, with the right to give command 1 in its lowest bit and so on; a
@@ -109,5 +111,24 @@ impl Command {
             7 => Some(Code::TakeRights),
             _ => None,
         }
+    }
+    // The kind of edge that the number `kind` names, or none.
+    pub fn edge_kind(&self) -> Option<Kind>
+        ensures { IsKind self.now.kind result }
+    {
+        Kind::of(self.kind)
+    }
+
+    // Whether that kind has the part I; a number that is no kind has neither part.
+    pub fn has_i(&self) -> bool
+        ensures { result ≡ has_i self.now.kind }
+    {
+        self.edge_kind().is_some_and(Kind::has_i)
+    }
+
+    pub fn has_a(&self) -> bool
+        ensures { result ≡ has_a self.now.kind }
+    {
+        self.edge_kind().is_some_and(Kind::has_a)
     }
 }

@@ -1,9 +1,38 @@
-// The parts of an edge.
-ghost use Rattle.std.specs.Prelude.{◌≡◌, ◌||◌, eqb};
+// The kind of an edge: which of its two parts it has.
+ghost use Rattle.std.specs.Prelude.{◌≡◌};
+ghost use Rattle.hierarchy.specs.Tables.{has_i, has_a};
+ghost use Rattle.board.specs.Codes.{kind_number, IsKind};
 
-// Whether a kind has the part `own`, 1 or 2: it is that kind, or both. Numbers, since C hands a kind over as one and each has an answer.
-pub fn has_part(kind: u32, own: u32) -> bool
-    ensures { result ≡ (eqb kind own || eqb kind 3) }
-{
-    kind == own || kind == 3
+// In the order of their numbers, from 1 to 3.
+#[derive(Clone, Copy, PartialEq, Eq)]
+pub enum Kind {
+    I,
+    A,
+    IA,
+}
+
+impl Kind {
+    // The kind that a number names, or none.
+    pub fn of(number: u32) -> Option<Kind>
+        ensures { IsKind number result }
+    {
+        match number {
+            1 => Some(Kind::I),
+            2 => Some(Kind::A),
+            3 => Some(Kind::IA),
+            _ => None,
+        }
+    }
+
+    pub fn has_i(self) -> bool
+        ensures { result ≡ has_i (kind_number self) }
+    {
+        matches!(self, Kind::I | Kind::IA)
+    }
+
+    pub fn has_a(self) -> bool
+        ensures { result ≡ has_a (kind_number self) }
+    {
+        matches!(self, Kind::A | Kind::IA)
+    }
 }

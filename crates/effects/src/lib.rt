@@ -8,7 +8,6 @@ ghost use Rattle.std.specs.Prelude.{◌≡◌};
 ghost use Rattle.sets.specs.Sets.{bit, set_of};
 ghost use Rattle.effects.specs.Effects.{lives, table_after, after};
 
-use board::parts::has_part;
 use board::{Code, Command};
 use hierarchy::tables::Tables;
 use sets::{single, union, with, without};
@@ -69,7 +68,7 @@ fn living(live: u64, c: Command) -> u64
 pub fn effect(t: &mut Tables, c: Command)
     ensures { t.new ≡ after t.old c }
 {
-    edit(&mut t.i, c, c.i_seniors, c.i_juniors, has_part(c.kind, 1));
-    edit(&mut t.a, c, c.a_seniors, c.a_juniors, has_part(c.kind, 2));
+    edit(&mut t.i, c, c.i_seniors, c.i_juniors, c.has_i());
+    edit(&mut t.a, c, c.a_seniors, c.a_juniors, c.has_a());
     t.live = living(t.live, c);
 }

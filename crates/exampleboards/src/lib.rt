@@ -33,6 +33,7 @@ fn of(tables: Tables) -> Board
 }
 
 // 0 I 1, 1 I 2, 1 A 3
+#[tactic(auto, unfolding(crate::specs::Boards::P))]
 pub fn p() -> Board
     ensures { Of P start_rights result }
 {
@@ -45,6 +46,7 @@ pub fn p() -> Board
 }
 
 // 0 I 1, 0 I 2, 0 I 3, 1 A 3, 1 A 4, 3 A 5, 4 A 5
+#[tactic(auto, unfolding(crate::specs::Boards::W))]
 pub fn w() -> Board
     ensures { Of W start_rights result }
 {
@@ -62,6 +64,7 @@ pub fn w() -> Board
 }
 
 // 0 I 1, 1 I 2, 2 A 3, 0 A 3
+#[tactic(auto, unfolding(crate::specs::Boards::L))]
 pub fn l() -> Board
     ensures { Of L start_rights result }
 {
@@ -75,6 +78,7 @@ pub fn l() -> Board
 }
 
 // 0 I 1
+#[tactic(auto, unfolding(crate::specs::Boards::E))]
 pub fn e() -> Board
     ensures { Of E start_rights result }
 {
@@ -85,6 +89,7 @@ pub fn e() -> Board
 }
 
 // 0 I 1, 1 A 3, 3 I 4, 0 I 4
+#[tactic(auto, unfolding(crate::specs::Boards::F))]
 pub fn f() -> Board
     ensures { Of F start_rights result }
 {

@@ -3,7 +3,6 @@ use crate::words::{Answered, Asked, Reason, Rights, yes_or_no};
 use board::answers::{Cause, Refusal};
 use board::{Board, Command, checks};
 use commands::{decide, step};
-use exampleboards::{A, I, IA};
 use hierarchy::tables::Tables;
 use hierarchy::working::{Fault, work_out};
 use runs::{Evening, run_by_value};
@@ -123,16 +122,10 @@ pub(crate) fn rights(rt: &impl Print, name: &str, b: &Board, r: usize) -> io::Re
     println!(rt; "{name}: {r} holds{}", Rights(held as u32))
 }
 
-// The kind of the edge from x to y, by the two tables; 0 where there is none. (`writer` has the like for itself, of the two rows of a senior:
-// one for both would be a public function more, for these four lines.)
+// The kind of the edge from x to y, by the two tables: 1 for I, 2 for A and 3 for both; 0 where there is none.
 fn kind_of(t: &Tables, x: usize, y: usize) -> u32 {
-    let juniors = |table: &[u64; 64]| table.get(x).copied().unwrap_or(0);
-    match (has(juniors(&t.i), y), has(juniors(&t.a), y)) {
-        (true, true) => IA,
-        (true, false) => I,
-        (false, true) => A,
-        (false, false) => 0,
-    }
+    let joins = |table: &[u64; 64]| table.get(x).is_some_and(|juniors| has(*juniors, y));
+    u32::from(joins(&t.i)) + 2 * u32::from(joins(&t.a))
 }
 
 pub(crate) fn kind(rt: &impl Print, name: &str, b: &Board, x: usize, y: usize) -> io::Result<()> {

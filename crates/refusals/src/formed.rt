@@ -28,7 +28,7 @@ impl Formed {
         let in_range = match code {
             Code::AddRole | Code::RemoveRole => true,
             Code::AddEdge | Code::RemoveEdge | Code::ChangeEdge => {
-                c.junior <= 63 && 1 <= c.kind && c.kind <= 3
+                c.junior <= 63 && c.edge_kind().is_some()
             }
             Code::GiveRights | Code::TakeRights => c.rights <= 31,
         };

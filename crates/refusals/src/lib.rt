@@ -13,7 +13,6 @@ ghost use Rattle.refusals.specs.Refusals.{Missing, edge_kind, PartsStand, Standi
 ghost use Rattle.refusals.specs.Trusting.{BlamesBy, before_trusting};
 
 use board::answers::Refusal;
-use board::parts::has_part;
 use board::{Board, Code, Command};
 use formed::Formed;
 use hierarchy::tables::Tables;
@@ -43,8 +42,8 @@ fn parts_stand(t: &Tables, f: &Formed) -> bool
 {
     let senior = f.command.role as usize;
     let junior = f.command.junior as usize;
-    let i = !has_part(f.command.kind, 1) || has(t.i[senior], junior);
-    let a = !has_part(f.command.kind, 2) || has(t.a[senior], junior);
+    let i = !f.command.has_i() || has(t.i[senior], junior);
+    let a = !f.command.has_a() || has(t.a[senior], junior);
     i && a
 }
 

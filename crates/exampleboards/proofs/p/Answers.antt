@@ -1,6 +1,0 @@
-use Rattle.exampleboards.specs.Boards.{P}
-use Rattle.exampleboards.proofs.p.Goals as goal
-
-pub returns : goal.returns
-unfolding P
-returns c = c.of.ensures
