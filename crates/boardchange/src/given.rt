@@ -10,6 +10,13 @@ use commands::decide;
 use wording::meant;
 use wording::pieces::{NEWLINE, pieces_of, word};
 
+// What is asked for: the text is one command, or `many`, one a line.
+#[derive(Clone, Copy)]
+pub(crate) struct Asked<'a> {
+    pub(crate) text: &'a [u8],
+    pub(crate) many: bool,
+}
+
 // One line. Where `aloud` its answer is said, with the line's number before it where it has one. A refusal is told off the board as it
 // is then, since it left that alone.
 fn turn(rt: HostRuntime, b: &mut Board, line: &[u8], number: Option<usize>, aloud: bool) -> bool
@@ -62,13 +69,13 @@ fn all_given(rt: HostRuntime, b: &mut Board, text: &[u8], aloud: bool) -> bool
     done
 }
 
-// The text is one command, or `many` lines.
-pub(crate) fn given(rt: HostRuntime, b: &mut Board, text: &[u8], many: bool, aloud: bool) -> bool
-    ensures { Gave b.old (text_commands many text.now) b.new result }
+// Gives the commands of a text.
+pub(crate) fn given(rt: HostRuntime, b: &mut Board, asked: Asked, aloud: bool) -> bool
+    ensures { Gave b.old (text_commands asked.entry.many asked.entry.text.now) b.new result }
 {
-    if many {
-        all_given(rt, b, text, aloud)
+    if asked.many {
+        all_given(rt, b, asked.text, aloud)
     } else {
-        turn(rt, b, text, None, aloud)
+        turn(rt, b, asked.text, None, aloud)
     }
 }

@@ -26,7 +26,7 @@ use arrayvec::ArrayString;
 use board::Board;
 use board::answers::Refusal;
 use disk::{Trouble, open_folder, open_update, read_whole};
-use given::given;
+use given::{Asked, given};
 use input::{INPUT, NoWord, WORDS, arg_count, gather};
 use lines::{Quoted, complain, fail, say};
 use lock::{give_up, take};
@@ -111,15 +111,8 @@ fn say_trouble(rt: HostRuntime, name: &str, trouble: Trouble) {
 
 // Gives the commands to the board and says nothing; where one was done, that board becomes the file. Answers whether the answers may be
 // said.
-fn change_file(
-    rt: HostRuntime,
-    names: Names,
-    held: File,
-    b: &mut Board,
-    text: &[u8],
-    many: bool,
-) -> bool {
-    if given(rt, b, text, many, false) {
+fn change_file(rt: HostRuntime, names: Names, held: File, b: &mut Board, asked: Asked) -> bool {
+    if given(rt, b, asked, false) {
         return replace(rt, names, held, b);
     }
     give_up(rt, held, names.lock);
@@ -140,7 +133,7 @@ fn if_read(rt: HostRuntime, names: Names, begun: Begun) -> Option<File> {
 }
 
 // Takes the lock, reads the board into this one, and decides the commands on it.
-fn change_read(rt: HostRuntime, names: Names, b: &mut Board, text: &[u8], many: bool) {
+fn change_read(rt: HostRuntime, names: Names, b: &mut Board, asked: Asked) {
     let Some(begun) = begin(rt, names, b) else {
         return;
     };
@@ -148,15 +141,15 @@ fn change_read(rt: HostRuntime, names: Names, b: &mut Board, text: &[u8], many: 
         return;
     };
     let mut copy = *b;
-    if change_file(rt, names, held, &mut copy, text, many) {
+    if change_file(rt, names, held, &mut copy, asked) {
         // the same again, aloud: the answers are those of the same commands on the same board
-        given(rt, b, text, many, true);
+        given(rt, b, asked, true);
     }
 }
 
 // Decides the commands of a text on the board in the file, and leaves the new board there.
-fn change(rt: HostRuntime, names: Names, text: &[u8], many: bool) {
-    change_read(rt, names, &mut Board::founding(), text, many);
+fn change(rt: HostRuntime, names: Names, asked: Asked) {
+    change_read(rt, names, &mut Board::founding(), asked);
 }
 
 // Makes the file, with the founding board, where there is none of that name.
@@ -195,7 +188,14 @@ fn change_by_input(rt: HostRuntime, names: Names) {
             rt,
             "refused 2: the input has more than 60000 bytes; nothing of it was tried",
         ),
-        Ok(n) => change(rt, names, &space[..n], true),
+        Ok(n) => change(
+            rt,
+            names,
+            Asked {
+                text: &space[..n],
+                many: true,
+            },
+        ),
         Err(why) => fail(rt, "standard input", why),
     }
 }
@@ -217,7 +217,14 @@ fn say_no_word(rt: HostRuntime, k: usize) {
 fn change_by_words(rt: HostRuntime, names: Names) {
     let mut space = [0u8; WORDS];
     match gather(rt, &mut space) {
-        Ok(n) => change(rt, names, &space[..n], false),
+        Ok(n) => change(
+            rt,
+            names,
+            Asked {
+                text: &space[..n],
+                many: false,
+            },
+        ),
         Err(NoWord(k)) => say_no_word(rt, k),
     }
 }

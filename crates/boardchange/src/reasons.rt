@@ -217,7 +217,7 @@ impl Reason<'_> {
         let c = self.command;
         let role = c.role;
         let junior = c.junior;
-        if c.code == 1 {
+        if matches!(c.named(), Some(Code::AddRole)) {
             return write!(f, "role {role} is on the board already");
         }
         let kind = kind_name(c.kind);

@@ -137,6 +137,9 @@ module _ (f : List ℕ) (n m : ℕ) (t : Tables) (rights : List ℕ) (roles : Go
 
 -- ---- the answers
 
+pub opened_as : {f g : List ℕ} {n : ℕ} {b : Board} → f ≡ g → Opening f n b → Opening g n b
+opened_as {n = n} {b} e = subst (λ (f : List ℕ). Opening f n b) e
+
 module _ {f : List ℕ} {e : Refusal} (b : Board) where
   pub refused_frame : BadFrame f × (e ≡ refusal.BadFrame) → Opening f (number_of e) b
   unfolding First

@@ -1,35 +1,46 @@
 // The records of a board file: role bytes into the set of live roles, edge records into the two tables. Both stand in the order of a
 // number, the role or the place senior * 64 + junior, and `next` is the least that may come.
-ghost use Rattle.std.specs.Prelude.{◌≡◌, ◌&&◌, ◌||◌, ℕ, ◌+◌, ◌*◌, ◌≤◌, ◌<◌, length, replicate};
+ghost use Rattle.std.specs.Prelude.{◌≡◌, ◌&&◌, ◌||◌, ℕ, ◌+◌, ◌*◌, ◌≤◌, ◌<◌, length};
 ghost use Rattle.sets.specs.Sets.{bit, same?};
-ghost use Rattle.frames.specs.Frames.{role_count};
 ghost use Rattle.boardfile.specs.Parts.{Read, Spelt, Judged, Entered, GoodRoles, GoodEdges};
-ghost use Rattle.frames.specs.Framing.{Announced};
+ghost use Rattle.frames.specs.Framing.{GoodFrame};
 
 use board::answers::Refusal;
 use frames::Layout;
 use hierarchy::tables::Tables;
 use sets::{has, with};
 
-// The live roles, by the n bytes that list them.
-pub(crate) fn listed(file: &[u8], n: usize) -> Result<u64, Refusal>
-    requires { (role_count file.now ≡ n) × (1 ≤ n) × (n ≤ length file.now) }
-    ensures { Read file.now (GoodRoles file.now n) result }
-{
-    if file[0] != 0 {
-        return Err(Refusal::BadRecord);
-    }
-    let mut live: u64 = 0;
-    let mut next: usize = 0;
-    for byte in &file[..n] {
-        let role = *byte as usize;
-        if 63 < role || role < next {
+// A file whose frame is right, with the live roles that its role bytes list.
+#[derive(Clone, Copy)]
+pub(crate) struct Listed<'f> {
+    pub file: &'f [u8],
+    pub layout: Layout,
+    pub live: u64,
+    ghost framed: { GoodFrame file.now layout.roles layout.edges layout.rights },
+    ghost room: { layout.roles + 3 * layout.edges ≤ length file.now },
+    ghost listed: { GoodRoles file.now layout.roles live },
+}
+
+impl<'f> Listed<'f> {
+    pub(crate) fn of(file: &'f [u8], layout: Layout) -> Result<Listed<'f>, Refusal>
+        requires { GoodFrame file.now layout.roles layout.edges layout.rights }
+        ensures { Read file.now (λ r. r.file.now ≡ file.now) result }
+    {
+        if file[0] != 0 {
             return Err(Refusal::BadRecord);
         }
-        live = with(live, role);
-        next = role + 1;
+        let mut live: u64 = 0;
+        let mut next: usize = 0;
+        for byte in &file[..layout.roles] {
+            let role = *byte as usize;
+            if 63 < role || role < next {
+                return Err(Refusal::BadRecord);
+            }
+            live = with(live, role);
+            next = role + 1;
+        }
+        Ok(Listed { file, layout, live })
     }
-    Ok(live)
 }
 
 #[derive(Clone, Copy)]
@@ -88,16 +99,20 @@ fn entered(row: u64, junior: usize, part: bool) -> u64
     if part { with(row, junior) } else { row }
 }
 
-// The edge records behind the role bytes, into two blank tables. On refusal the tables hold anything.
-pub(crate) fn edges(file: &[u8], layout: Layout, t: &mut Tables) -> Result<(), Refusal>
-    requires { Announced file.now layout.roles layout.edges × GoodRoles file.now layout.roles t.old.live × (t.old.i ≡ replicate 64 0) × (t.old.a ≡ replicate 64 0) }
-    ensures { Read file.now (λ _. (t.new.live ≡ t.old.live) × GoodEdges file.now layout.roles layout.edges t.new) result }
+// The tables that the edge records spell, into these. On refusal the tables hold anything.
+pub(crate) fn edges(f: &Listed, t: &mut Tables) -> Result<(), Refusal>
+    ensures { Read f.now.file.now (λ _. (t.new.live ≡ f.now.live) × GoodEdges f.now.file.now f.now.layout.roles f.now.layout.edges t.new) result }
 {
-    let start = layout.roles;
+    *t = Tables {
+        live: f.live,
+        i: [0; 64],
+        a: [0; 64],
+    };
+    let start = f.layout.roles;
     let mut next: usize = 0;
-    for bytes in file[start..start + 3 * layout.edges].chunks_exact(3) {
+    for bytes in f.file[start..start + 3 * f.layout.edges].chunks_exact(3) {
         let e = Edge::spelt(bytes);
-        if e.place() < next || !e.is_right(t.live) {
+        if e.place() < next || !e.is_right(f.live) {
             return Err(Refusal::BadRecord);
         }
         e.enter(t);

@@ -1,12 +1,13 @@
 -- The tables and the rights afterwards as they are computed, with the rows that a command cannot touch taken as they are, are those of the
 -- definitions. Assumes nothing.
 use mathlib.Core.Path.{◌≡◌, refl, sym, ◌∙◌, ap, ap₂, subst, fun_ext}
-use mathlib.Core.Bool.{Bool, true, false, cond, not, ◌&&◌, ◌||◌, and-true, and-false, or-false, true≢false}
+use mathlib.Core.Bool.{Bool, true, false, cond, not, ◌&&◌, ◌||◌, and-true, and-false, or-false}
 use mathlib.Core.List.{List}
 use Prim.Native.Nat.{ℕ, ◌^◌, ◌<◌}
 use native.Mathlib.Omega.{arith}
 use lib.Dec.{eqb}
 use borrow.Author.Tests.{eqb-true, leb-true}
+use Rattle.std.proofs.lemmas.Bool.{or_parts}
 use Rattle.sets.specs.Sets.{bit, set_of}
 use Rattle.sets.proofs.Bools.{cond_elim}
 use Rattle.sets.proofs.Laws.{is_set_of}
@@ -21,10 +22,6 @@ use Rattle.refusals.proofs.Trying.{role_lt}
 use Rattle.commands.specs.RightsAfter.{rights_after}
 use Rattle.commands.proofs.RightsLeft.{rights_length, rights_set, rights_small}
 use Rattle.exampleboards.specs.Answer.{touched?, table_left, left, rights_left}
-
-neither : (p q : Bool) → (p || q) ≡ false → (p ≡ false) × (q ≡ false)
-neither true q e = absurd (true≢false e)
-neither false q e = (refl, e)
 
 stays : (old r : Bool) → (r ≡ true → old ≡ false) → (old && not r) ≡ old
 stays old true h = and-false old ∙ sym (h refl)
@@ -57,8 +54,8 @@ unfolding table_left table_after touched?
 table_left_is c seniors juniors part t fits = ap (list_of 64) (fun_ext (λ x.
     let f : ℕ → Bool = λ y. entry c seniors juniors part (bit (row t x) y) x y in
     cond_elim (λ s. s ≡ set_of f) (touched? c seniors t x) (set_of f) (row t x) (λ _. refl) (λ e.
-    let p = neither (eqb x c.role) (bit seniors x || bit (row t x) c.role) e in
-    let q = neither (bit seniors x) (bit (row t x) c.role) p.1 in
+    let p = or_parts (eqb x c.role) (bit seniors x || bit (row t x) c.role) e in
+    let q = or_parts (bit seniors x) (bit (row t x) c.role) p.1 in
     is_set_of (row t x) f (fits x) (λ y _.
     sym (entry_stays c seniors juniors part (bit (row t x) y) x y p.0 q.0 (λ d. ap (bit (row t x)) (eqb-true y c.role d) ∙ q.1))))))
 

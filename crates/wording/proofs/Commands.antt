@@ -17,7 +17,7 @@ use Rattle.wording.specs.declared.names.SetName.{SetName as NameOfSet}
 use Rattle.wording.specs.declared.names.SetName.TheVariants.{ASeniors, ISeniors, AJuniors, IJuniors}
 use Rattle.wording.specs.declared.Wanted.{Wanted}
 use Rattle.wording.proofs.Numbers.{role_low}
-use Rattle.wording.proofs.Placing.{place_low}
+use Rattle.wording.proofs.Placing.{place_low, command_low}
 use Rattle.wording.proofs.Lists.{rights_few}
 
 abbrev Fit : Meaning → Type 0
@@ -35,8 +35,7 @@ counted_low n None h = tt
 counted_low n (Some k) h = (omega arith, omega arith)
 
 code_low : (w : List ℕ) → IfSome (code_of w) (λ k. (1 ≤ k) × (k ≤ 7))
-unfolding pieces longer separates
-code_low w = counted_low 7 _ (place_low w (pieces 44 (bytes "add-role,remove-role,add-edge,remove-edge,change-edge,give-rights,take-rights")))
+code_low w = counted_low 7 _ (command_low w)
 
 kind_low : (w : List ℕ) → IfSome (kind_of w) (λ k. (1 ≤ k) × (k ≤ 3))
 unfolding pieces longer separates

@@ -9,7 +9,7 @@ use native.Mathlib.Omega.{arith}
 use lib.Dec.{eqb}
 use lib.Pointwise.{pointwise}
 use lib.ListN.{length}
-use Rattle.wording.specs.Texts.{alike?, pieces, rest_of, Given}
+use Rattle.wording.specs.Texts.{alike?, pieces, rest_of, Given, bytes, separates, longer}
 use Rattle.wording.specs.Names.{place_in}
 use Rattle.wording.specs.declared.pieces.Pieces.{Pieces}
 use Rattle.wording.proofs.Cutting.{rest_over}
@@ -75,3 +75,8 @@ place_low w (p ∷ ps) = go (alike? w p) (place_in w ps) (place_low w ps)
     go true r h = suc-le-suc zero-le
     go false None h = tt
     go false (Some k) h = suc-le-suc h
+
+-- there are seven commands
+pub command_low : (w : List ℕ) → IfSome (place_in w (pieces 44 (bytes "add-role,remove-role,add-edge,remove-edge,change-edge,give-rights,take-rights"))) (λ k. k < 7)
+unfolding pieces longer separates
+command_low w = place_low w (pieces 44 (bytes "add-role,remove-role,add-edge,remove-edge,change-edge,give-rights,take-rights"))

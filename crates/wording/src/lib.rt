@@ -9,10 +9,10 @@
 // SET is roles, as 1,2,5. Words stand apart by blanks. `specs/Meanings.antt` says what a line means.
 #![tactic(auto)]
 
-ghost use Rattle.std.specs.Prelude.{◌≡◌};
+ghost use Rattle.std.specs.Prelude.{◌≡◌, ◌≤◌};
 ghost use Rattle.wording.specs.Meanings.{bare, set_at, with_set, sets_from, edge_from, rights_from, by_code, ends_at, meaning_of};
 
-use board::Command;
+use board::{Code, Command};
 use names::{SetName, code, kind, rights, role, roles, set_name};
 use pieces::word;
 
@@ -164,13 +164,14 @@ fn on_rights(line: &[u8], c: Command) -> Result<Command, Wrong>
 
 #[tactic(auto, unfolding(crate::specs::Meanings::by_code))]
 fn by_code(line: &[u8], c: Command) -> Result<Command, Wrong>
+    requires { c.code ≤ 7 }
     ensures { result ≡ by_code line.now c }
 {
-    match c.code {
-        1 => on_new(line, c),
-        2 => ended(line, 3, c),
-        ..=5 => on_edge(line, c),
-        _ => on_rights(line, c),
+    match c.named() {
+        Some(Code::AddRole) => on_new(line, c),
+        Some(Code::RemoveRole) => ended(line, 3, c),
+        Some(Code::GiveRights | Code::TakeRights) => on_rights(line, c),
+        _ => on_edge(line, c),
     }
 }
 

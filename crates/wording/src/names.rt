@@ -22,7 +22,8 @@ fn place_in(text: &[u8], names: &[u8]) -> Option<usize>
 
 // A command, 1 to 7, by its name.
 pub(crate) fn code(text: &[u8]) -> Option<u32>
-    ensures { result ≡ code_of text.now }
+    ensures value { result ≡ code_of text.now }
+    ensures bound { IfSome result (λ k. k ≤ 7) }
 {
     let place = place_in(
         text,

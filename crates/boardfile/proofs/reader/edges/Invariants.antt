@@ -5,5 +5,5 @@ use Rattle.boardfile.proofs.reader.edges.Given as goal
 
 abbrev pub invariant-loop-bytes : goal.invariant-loop-bytes
 invariant-loop-bytes l =
-    (l.t.live ≡ l.initial.t.live)
-    × Going l.file l.start l.fn.layout.edges l.t.live l.next l.t.i l.t.a (chunks_exact_size l.bytes-iterator) (chunks_exact_rest l.bytes-iterator)
+    (l.t.live ≡ l.f.live)
+    × Going l.f.file.now l.start l.f.layout.edges l.t.live l.next l.t.i l.t.a (chunks_exact_size l.bytes-iterator) (chunks_exact_rest l.bytes-iterator)

@@ -1,5 +1,0 @@
-use Rattle.boardfile.proofs.RoleBytes.{SoFar}
-use Rattle.boardfile.proofs.reader.listed.Given as goal
-
-abbrev pub invariant-loop-byte : goal.invariant-loop-byte
-invariant-loop-byte l = SoFar l.file l.n l.byte-index l.next l.live
