@@ -1,8 +1,6 @@
--- The parts of an answer put together, and that each fits its part. Assumes nothing.
-use mathlib.Core.Path.{◌≡◌, refl, ap, ◌∙◌, subst}
-use mathlib.Core.Bool.{Bool, true, false}
-use mir.Val.{bool_byte}
-use Rattle.sets.specs.Sets.{num}
+-- That each part of an answer fits its place. Assumes nothing.
+use mathlib.Core.Path.{◌≡◌, refl, ap, subst}
+use mathlib.Core.Bool.{Bool}
 use mathlib.Core.Logic.{dite}
 use mathlib.Core.List.{List}
 use Prim.Native.Nat.{ℕ, ◌≤◌, ◌<◌}
@@ -15,11 +13,9 @@ use Rattle.hierarchy.proofs.Theorems.{climb_short}
 use Rattle.board.specs.Boards.{tables_of}
 use Rattle.board.specs.declared.Board.{Board}
 use Rattle.board.proofs.Rules.{first_done}
-use Rattle.answers.specs.Packing.{answer}
 use Rattle.writer.specs.Writing.{write_refusals, WriteAnswer}
 use Rattle.boardfile.specs.Answers.{ScopeOnFile, StepsOnFile}
 use Rattle.boardfile.proofs.Theorems.{sound_length}
-use Rattle.host.specs.Answers.{place_of, place_of_writing}
 
 -- a scope has at most 64 roles: they are live
 pub count_small : {f : List ℕ} (a r : ℕ) {n count cause way : ℕ} {said : Bool} → ScopeOnFile f a r n said count cause way → count ≤ 64
@@ -45,17 +41,3 @@ write_small {b} {entry} {at = at} {n = n} {len} w = dite (ℕ_discrete n 0)
     let long : 6184 < len → ⊥ = λ l. passed.0 (λ sound. omega (arith, l, (w.done z).0, sound_length (tables_of b) sound.sound b.rights)) in
     omega (arith, long))
     (λ z. omega (arith, (w.refused z).0))
-
--- what is done blames the question, and a writing that is done too
-pub answered : (v w : ℕ) {r : ℕ} → r ≡ answer 0 0 v → v ≡ w → r ≡ answer 0 (place_of 0) w
-unfolding place_of
-answered v w e f = e ∙ ap (λ (u : ℕ). answer 0 0 u) f
-
-pub written : (v : ℕ) {r : ℕ} → r ≡ answer 0 0 v → r ≡ answer 0 (place_of_writing 0) v
-unfolding place_of_writing
-written v e = e
-
--- a yes is 1
-pub yes_is_1 : (yes : Bool) → bool_byte yes ≡ num yes
-yes_is_1 true = refl
-yes_is_1 false = refl

@@ -21,11 +21,11 @@ place_number File = 1
 place_number Writing = 2
 
 -- of a question, whose own refusals are 2 and 3
-unfoldable pub place_of : ℕ → ℕ
+abbrev pub place_of : ℕ → ℕ
 place_of number = cond (eqb number 0 || (eqb number 2 || eqb number 3)) 0 1
 
 -- of a writing, whose own refusal is 12
-unfoldable pub place_of_writing : ℕ → ℕ
+abbrev pub place_of_writing : ℕ → ℕ
 place_of_writing number = cond (eqb number 12) 2 0
 
 -- ---- questions

@@ -11,7 +11,8 @@ use board::answers::{Cause, Refusal};
 use questions::Scoped;
 use scopes::Bar;
 
-// Where an answer arose, as C knows it: the command or the question, which is also where all that is done arose; the file; the writing.
+// Where an answer arose, by the number that C is told (`BOARD_PLACE`): the command or the question, which is also where all that is done
+// arose; the file; the writing.
 pub(crate) const ASKED: u8 = 0;
 
 pub(crate) const FILE: u8 = 1;
@@ -51,7 +52,6 @@ pub(crate) fn unwritten(refusal: Refusal) -> u64
 
 // Where the refusal of a question about a file arose: its own are a number that is no role and a role that isn't there, all others are
 // the file's.
-#[tactic(auto, unfolding(crate::specs::Answers::place_of))]
 fn place_of(refusal: Refusal) -> u8
     ensures { result ≡ place_of (number_of refusal) }
 {
@@ -62,7 +62,6 @@ fn place_of(refusal: Refusal) -> u8
 }
 
 // Where the refusal of a writing arose: want of room is its own; a board that isn't sound is refused as a command on it is.
-#[tactic(auto, unfolding(crate::specs::Answers::place_of_writing))]
 fn place_of_writing(refusal: Refusal) -> u8
     ensures { result ≡ place_of_writing (number_of refusal) }
 {
@@ -94,8 +93,5 @@ pub(crate) fn bar_reason(bar: Option<Bar>) -> u64
 pub(crate) fn manager_value(manager: Option<u8>) -> u16
     ensures { result ≡ manager_or64 manager }
 {
-    match manager {
-        Some(role) => u16::from(role),
-        None => NONE,
-    }
+    manager.map_or(NONE, |role| u16::from(role))
 }

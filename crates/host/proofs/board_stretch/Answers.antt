@@ -1,7 +1,5 @@
-use mathlib.Core.Path.{refl}
 use native.Mathlib.Omega.{arith}
 use Rattle.boardfile.proofs.Asking.{bounds_small}
-use Rattle.host.proofs.Bounds.{answered}
 use Rattle.host.proofs.board_stretch.Goals as goal
 
 pub overflow_cast-span : goal.overflow_cast-span
@@ -12,9 +10,3 @@ overflow_mul-result c = let l = bounds_small c.in-Ok.ensures in record { fits = 
 
 pub overflow_add-result : goal.overflow_add-result
 overflow_add-result c = let l = bounds_small c.in-Ok.ensures in record { fits = omega (arith, c.done.ensures) }
-
-pub returns-in-Ok : goal.returns-in-Ok
-returns-in-Ok c =
-    let q = c.in-Ok in
-    let low = answered _ _ c.done.ensures refl in
-    (0, (q.span.start, (q.span.len, q.ensures, omega (arith, low))))
