@@ -1,7 +1,7 @@
 -- The answers of the questions on a file, and of the stretch, from those on its board. Assumes nothing.
 use mathlib.Core.Path.{◌≡◌, refl, ap, ap₂, ◌∙◌}
 use mathlib.Core.Logic.Iff
-use mathlib.Core.Logic.{◌⊎◌, inl, inr, ◌≢◌}
+use mathlib.Core.Logic.{◌⊎◌, inl, inr}
 use mathlib.Core.List.{List, [], ◌∷◌}
 use Prim.Native.Nat.{ℕ, ◌+◌, ◌≤◌, ◌<◌}
 use native.Mathlib.Omega.{arith}
@@ -16,12 +16,13 @@ use Rattle.board.specs.declared.Board.{Board}
 use Rattle.board.specs.declared.answers.Refusal.{Refusal}
 use Rattle.board.proofs.Answering.{number_of_some}
 use Rattle.board.proofs.Rules.{first_alike, first_done, first_refused, first_next}
-use Rattle.board.proofs.Asking.{answer_as}
+use Rattle.board.proofs.Asking.{answer_as, answer_refused}
 use Rattle.questions.specs.Questions.{refusals as questionRefusals}
 use Rattle.writer.specs.Files.{stretch_of}
 use Rattle.writer.specs.Writing.{start_or_none, Stands}
 use Rattle.writer.proofs.Places.{stands_small, place_inside, place_is}
 use Rattle.boardfile.specs.Answers.{IsFile, TablesIn, refusals, ReadAnswer, asked_refusals, OfFile, BoundsAnswer, StretchAnswer}
+use Rattle.boardfile.specs.Parts.{Opening}
 use Rattle.boardfile.specs.Stretches.{StretchOf}
 use Rattle.boardfile.proofs.OneBoard.{named_by}
 
@@ -31,8 +32,9 @@ use Rattle.boardfile.proofs.OneBoard.{named_by}
 abbrev own : List ℕ → ℕ → ℕ → List (ℕ × Type 0)
 own f x y = (2, (63 < x) ⊎ (63 < y)) ∷ (3, TablesIn f (λ t. (x is_in t.live → ⊥) ⊎ (y is_in t.live → ⊥))) ∷ []
 
-pub asked_refused : (f : List ℕ) (x y n : ℕ) → First (refusals f) n → n ≢ 0 → First (asked_refusals f x y) n
-asked_refused f x y n h z = first_refused (refusals f) (own f x y) n z h
+-- of a file that is refused nothing is asked
+pub unopened : {f : List ℕ} {b : Board} {A : Type 0} {Right : A → Type 0} {none : A} (x y : ℕ) (r : Refusal) → Opening f (number_of r) b → Answered (asked_refusals f x y) Right none (number_of r) none
+unopened {f} x y r o = answer_refused (first_refused (refusals f) (own f x y) (number_of r) (number_of_some r) o.numbered) (number_of_some r)
 
 module _ {f : List ℕ} {b : Board} (r : ReadAnswer f 0 b) where
   asked_own : (x y n : ℕ) → First (misnamed b.tables.live x y) n → First (asked_refusals f x y) n

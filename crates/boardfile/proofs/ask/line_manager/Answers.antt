@@ -1,15 +1,13 @@
 use Rattle.std.proofs.lemmas.Result.{err_from_is_err_and}
-use Rattle.board.proofs.Answering.{number_of_some}
-use Rattle.board.proofs.Asking.{answer_refused}
 use Rattle.questions.proofs.Viewing.{manager_viewed}
-use Rattle.boardfile.proofs.Asking.{asked_refused, on_file}
+use Rattle.boardfile.proofs.Asking.{unopened, on_file}
 use Rattle.boardfile.proofs.Readings.{sound, read_done}
 use Rattle.boardfile.proofs.ask.line_manager.Goals as goal
 
 pub returns-in_err-open : goal.returns-in_err-open
 returns-in_err-open c =
     let p = err_from_is_err_and c.from_residual.result c.from_residual.ensures.1 in
-    rw (p.1, p.2) (answer_refused (asked_refused _ _ _ _ c.in_err-open.ensures.numbered (number_of_some _)) (number_of_some _))
+    rw (p.1, p.2) (unopened _ _ _ c.in_err-open.ensures)
 
 pub returns : goal.returns
 returns c = on_file (read_done c.in_ok-open.ensures) _ _ (manager_viewed (sound c.in_ok-open.ensures) _ c.line_manager_trusting.ensures)

@@ -7,9 +7,6 @@ returns-in_err-layout c =
     let p = err_from_is_err_and c.from_residual.result c.from_residual.ensures.1 in
     rw (p.1, p.2) (refused_frame _ c.in_err-layout.ensures)
 
-pub of-requires : goal.of-requires
-of-requires c = c.in_ok-layout.ensures
-
 pub returns-in_err-f : goal.returns-in_err-f
 returns-in_err-f c =
     let p = err_from_is_err_and c.from_residual-in_err-f.result c.from_residual-in_err-f.ensures.1 in

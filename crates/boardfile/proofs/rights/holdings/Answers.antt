@@ -3,9 +3,6 @@ use Rattle.frames.specs.Framing.{GoodFrame}
 use Rattle.boardfile.proofs.RightBytes.{rights_founding}
 use Rattle.boardfile.proofs.rights.holdings.Goals as goal
 
-pub returns-then-not-f : goal.returns-then-not-f
-returns-then-not-f c = rw c.if-not-f.true refl
-
 pub returns-then-founding : goal.returns-then-founding
 returns-then-founding c =
     let f = c.args.f.now in

@@ -4,15 +4,8 @@ use Prim.Native.Nat.{◌≤◌}
 use lib.ListN.{length}
 use lib.Seq.{length-take-le}
 use Rattle.frames.proofs.Frames.{announced}
-use Rattle.boardfile.specs.Faults.{BadRecord.first_role}
 use Rattle.boardfile.proofs.RoleBytes.{roles_start, roles_turn, roles_bad, roles_end}
 use Rattle.boardfile.proofs.reader.Listed.of.Goals as goal
-
-pub bounds-file-0 : goal.bounds-file-0
-bounds-file-0 c = omega (arith, c.requires.some, (announced c.requires).room)
-
-pub returns-then-file-ne0 : goal.returns-then-file-ne0
-returns-then-file-ne0 c = (first_role c.if-file-ne0.true, refl)
 
 pub slice_bounds-byte-items-end : goal.slice_bounds-byte-items-end
 slice_bounds-byte-items-end c = sym (length-take-le c.args.layout.roles c.args.file.now (omega (arith, (announced c.requires).room)))
