@@ -1,7 +1,7 @@
 -- Tables row by row and entry by entry: what the code of the effects cites. Assumes nothing.
 use mathlib.Core.Path.{◌≡◌, refl, sym, ap, ap₂, ◌∙◌, subst}
 use mathlib.Core.Bool.{Bool, true, false, cond, not, ◌&&◌, ◌||◌, and-true, and-false, or-true, or-false, or_assoc, and_comm}
-use mathlib.Core.Logic.{◌≢◌, ◌⊎◌, inr, ⊎_elim}
+use mathlib.Core.Logic.{◌≢◌, ◌⊎◌, inl, inr, ⊎_elim}
 use mathlib.Core.List.{List}
 use Prim.Native.Nat.{ℕ, zero, suc, ◌+◌, ◌^◌, ◌≤◌, ◌<◌}
 use native.Mathlib.Nat.{not-suc-le-zero, le_of_suc-le-suc}
@@ -9,7 +9,7 @@ use native.Mathlib.Omega.{arith}
 use lib.Dec.{eqb, lit<}
 use lib.ListN.{set, length, length-set, get_or-eq_default}
 use lib.Seq.{get_or-set_same, get_or-set_other, ext_get_or}
-use borrow.Author.Tests.{eqb-true, ne_eqb}
+use borrow.Author.Tests.{eqb-true, eqb-false, ne_eqb}
 use Rattle.sets.specs.Sets.{bit, ◌is_in◌, ◌are_in◌, same?, set_of}
 use Rattle.sets.proofs.Bools.{true_or_false, and_left, and_right, false_no, lt_or_ge}
 use Rattle.sets.proofs.Digits.{bit_zero}
@@ -267,8 +267,15 @@ module _ (c : Command) (s j : ℕ) (p : Bool) (t : List ℕ) where
       (λ x y l m. let o = bit (row t x) y in sym (entry_4 c s j p o x y e ∙ rw (h, and-false (pair c x y), and-true o)))
 
   -- and so does a code past the fifth or below the first
-  pub keeps : (c.code < 1) ⊎ (5 < c.code) → IsTable t → t ≡ table_after c s j p t
-  keeps k whole = table_is c s j p t t whole (λ x y l m. sym (entry_none c s j p (bit (row t x) y) x y k))
+  pub past_keeps : (c.code < 1) ⊎ (5 < c.code) → IsTable t → t ≡ table_after c s j p t
+  past_keeps k whole = table_is c s j p t t whole (λ x y l m. sym (entry_none c s j p (bit (row t x) y) x y k))
+
+  pub keeps : c.code ≢ 1 → c.code ≢ 2 → (c.code ≡ 3 → p ≡ false) → (c.code ≡ 4 → p ≡ false) → c.code ≢ 5 → IsTable t → t ≡ table_after c s j p t
+  keeps e1 e2 e3 e4 e5 whole =
+      ⊎_elim (λ a. let n = eqb-true c.code 3 a in not_linked n (e3 n) whole)
+      (λ d. ⊎_elim (λ a. let n = eqb-true c.code 4 a in not_unlinked n (e4 n) whole)
+      (λ e. past_keeps (⊎_elim inl (λ g. inr (omega (arith, g, e1, e2, e5, eqb-false c.code 3 d, eqb-false c.code 4 e))) (lt_or_ge c.code 1)) whole)
+      (true_or_false (eqb c.code 4))) (true_or_false (eqb c.code 3))
 
 -- ---- the live roles, and all three
 

@@ -4,3 +4,4 @@ pub mod Trying
 pub mod Entitling
 pub mod Offenders
 pub mod Unique
+pub mod Down

@@ -5,12 +5,12 @@ use native.Mathlib.Omega.{arith}
 use Prim.Native.Nat.{ℕ}
 use Rattle.sets.specs.Sets.{bit}
 use Rattle.board.specs.Codes.{code_number}
-use Rattle.effects.proofs.Edits.{adds, removes, links, not_linked, unlinks, not_unlinked, changes, keeps}
+use Rattle.effects.proofs.Edits.{adds, removes, links, not_linked, unlinks, not_unlinked, changes, past_keeps}
 use Rattle.effects.proofs.edit.Goals as goal
 
 pub returns-in_default : goal.returns-in_default
 returns-in_default c =
-    let a = c.args in keeps a.c a.seniors a.juniors a.part a.t.now (⊎_elim inl (λ g. inr (omega (arith, g))) c.in_default.ensures) (record { rows = c.told-t; fits = c.fits-t })
+    let a = c.args in past_keeps a.c a.seniors a.juniors a.part a.t.now (⊎_elim inl (λ g. inr (omega (arith, g))) c.in_default.ensures) (record { rows = c.told-t; fits = c.fits-t })
 
 pub returns-in-AddRole : goal.returns-in-AddRole
 returns-in-AddRole c =
@@ -53,6 +53,6 @@ returns-in-ChangeEdge c =
 pub returns-in-GiveRights : goal.returns-in-GiveRights
 returns-in-GiveRights c =
     let a = c.args in
-    keeps a.c a.seniors a.juniors a.part a.t.now
+    past_keeps a.c a.seniors a.juniors a.part a.t.now
     (inr (⊎_elim (λ e. let h = c.in-Some.ensures ∙ ap code_number e in omega (arith, h)) (λ e. let h = c.in-Some.ensures ∙ ap code_number e in omega (arith, h)) c.in-GiveRights.is))
     (record { rows = c.told-t; fits = c.fits-t })
