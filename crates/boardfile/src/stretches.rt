@@ -1,8 +1,9 @@
 // The edge records of one senior in a file: where they stand, and the part of the file that they are. The place is worked out from the
 // board, so that the file is read once.
+ghost use Rattle.std.specs.Prelude.{ℕ};
 ghost use Rattle.board.specs.Answers.{number, value_or};
 ghost use Rattle.boardfile.specs.Answers.{BoundsAnswer};
-ghost use Rattle.boardfile.specs.Stretches.{Stretched};
+ghost use Rattle.boardfile.specs.Stretches.{StretchOf, Stretched};
 ghost use Rattle.writer.specs.Parts.{nowhere};
 
 use crate::opening::open;
@@ -20,9 +21,19 @@ pub fn bounds(file: &[u8], role: u32) -> Result<Span, Refusal>
 }
 
 // The edge records of one senior, as a part of the file.
-pub fn stretch(file: &[u8], role: u32) -> Result<&[u8], Refusal>
+pub fn records(file: &[u8], role: u32) -> Result<&[u8], Refusal>
     ensures { Stretched file.now file.entry.ref_ptr role result }
 {
     let span = bounds(file, role)?;
     Ok(&file[span.start..span.start + span.len])
+}
+
+// The same, with no bytes, at the file's first, in place of a refusal.
+pub fn stretch(file: &[u8], role: u32) -> &[u8]
+    ensures { (number : ℕ) × StretchOf file.now file.entry.ref_ptr role number result.now result.ref_ptr }
+{
+    match records(file, role) {
+        Ok(part) => part,
+        Err(_) => &file[..0],
+    }
 }

@@ -2,7 +2,7 @@ use mathlib.Core.Path.{refl}
 use Prim.Native.Nat.{◌+◌, ◌-◌}
 use native.Mathlib.Omega.{arith}
 use Rattle.boardfile.proofs.Asking.{bounds_small, bounds_inside, stretched}
-use Rattle.boardfile.proofs.stretches.stretch.Goals as goal
+use Rattle.boardfile.proofs.stretches.records.Goals as goal
 
 pub overflow_add-result : goal.overflow_add-result
 overflow_add-result c = let s = bounds_small c.in_ok-span.ensures in record { fits = omega arith }
