@@ -28,8 +28,8 @@ fn held_after(c: Command, held: u64) -> u64
     match code {
         Code::AddRole | Code::RemoveRole => 0,
         Code::AddEdge | Code::RemoveEdge | Code::ChangeEdge => held,
-        Code::GiveRights => union(held, c.rights as u64),
-        Code::TakeRights => minus(held, c.rights as u64),
+        Code::GiveRights => union(held, u64::from(c.rights)),
+        Code::TakeRights => minus(held, u64::from(c.rights)),
     }
 }
 
@@ -39,6 +39,6 @@ pub(crate) fn change_rights(rights: &mut [u8; 64], c: Command)
     ensures { rights.new ≡ rights_after c rights.old }
 {
     let role = c.role as usize;
-    let held = rights[role] as u64;
+    let held = u64::from(rights[role]);
     rights[role] = held_after(c, held) as u8;
 }

@@ -1,5 +1,5 @@
 -- The rows of the table of refusals on the board handed in, each from what the code tests. Assumes nothing.
-use mathlib.Core.Path.{◌≡◌, refl, sym, ap, ◌∙◌, subst}
+use mathlib.Core.Path.{◌≡◌, sym, ap, ◌∙◌, subst}
 use mathlib.Core.Bool.{Bool, true, false, not, ◌&&◌, ◌||◌, or-false, or_comm}
 use mathlib.Core.Logic.Iff
 use mathlib.Core.Logic.{◌⊎◌, inl, inr, ⊎_elim, ◌≢◌, ◌↔◌}
@@ -9,8 +9,8 @@ use native.Mathlib.Decide.{ℕ_discrete}
 use native.Mathlib.Omega.{arith}
 use lib.Count.{count_trailing_zeros}
 use lib.Dec.{eqb}
-use borrow.Author.Tests.{eqb-true, eqb-false, eq-eqb, ne_eqb, leb-true, le-leb, lt-leb, not-true}
-use Rattle.sets.specs.Sets.{bit, ◌is_in◌, ◌are_in◌, same?}
+use borrow.Author.Tests.{eqb-true, eqb-false, ne_eqb, leb-true, le-leb, lt-leb, not-true}
+use Rattle.sets.specs.Sets.{bit, ◌is_in◌, same?}
 use Rattle.sets.proofs.Bools.{true_or_false, or_cases, or_left, or_right, and_left, and_right, and_both, false_no, lt_or_ge}
 use Rattle.sets.proofs.Digits.{bit_zero}
 use Rattle.sets.proofs.Laws.{same_is, bit_lowest}
@@ -32,7 +32,7 @@ use Rattle.refusals.specs.Refusals.{Malformed.no_code, Malformed.no_actor, Malfo
 use Rattle.refusals.specs.Entitled.{Entitled}
 use Rattle.refusals.specs.Trusting.{DerivesBy, BlamesBy, before_trusting}
 use Rattle.hierarchy.specs.Views.{ScopeBy}
-use Rattle.refusals.proofs.Blaming.{OnEdge, edge_is, names_plain, strict_asked}
+use Rattle.refusals.proofs.Blaming.{OnEdge, edge_is, names_plain}
 
 -- ---- row 2
 
@@ -164,15 +164,6 @@ missing_is c n d live h hn hd = Iff.trans (some_member d h) (
   λ w. (w.0, hd w.0 ∙ and_both (bit n w.0) (not (bit live w.0)) (hn w.0 ∙ w.1) (ap not w.2)),
 )
 
--- the scope condition, by the sets of those asked for
-pub within_is : (scope : ℕ) (c : Command) (u s w : ℕ) → (Malformed c → ⊥) → ((x : ℕ) → bit u x ≡ scoped c x) → ((x : ℕ) → bit s x ≡ strictly c x)
-    → ((x : ℕ) → bit w x ≡ (bit scope x && not (same? c.actor x))) → u are_in scope → (s are_in w) ↔ InScope (λ a x. x is_in scope) c
-within_is scope c u s w formed hu hs hw p =
-    let asked = strict_asked scope c.actor w (actor_lt c formed) hw in (
-      λ q. record { scope = λ x e. p x (hu x ∙ e); strict = λ x e. let m = (asked x).0 (q x (hs x ∙ e)) in (m.0, m.1 refl) },
-      λ r x e. let m = r.strict x (sym (hs x) ∙ e) in (asked x).1 (m.0, λ _. m.1),
-    )
-
 -- the scope condition by two relations that agree on the actor
 pub in_scope_alike : {In In' : ℕ → ℕ → Type 0} (c : Command) → ((x : ℕ) → In c.actor x ↔ In' c.actor x) → InScope In c ↔ InScope In' c
 in_scope_alike c h = (
@@ -180,23 +171,7 @@ in_scope_alike c h = (
   λ s. record { scope = λ x e. (h x).1 (s.scope x e); strict = λ x e. let m = s.strict x e in ((h x).1 m.0, m.1) },
 )
 
--- ---- rows 4 and 5
-
--- of two tests the code picks one, or none
-module _ (code m n : ℕ) (p q : Bool) where
-  abbrev picked : Bool
-  picked = (eqb code m && p) || (eqb code n && q)
-
-  pub picks_first : code ≡ m → m ≢ n → p ≡ picked
-  picks_first e d = rw (e, eq-eqb m m refl, ne_eqb m n d) (sym (or-false p))
-
-  pub picks_second : code ≡ n → n ≢ m → q ≡ picked
-  picks_second e d = rw (e, eq-eqb n n refl, ne_eqb n m d)
-
-  pub picks_none : code ≢ m → code ≢ n → false ≡ picked
-  picks_none d e = rw (ne_eqb code m d, ne_eqb code n e)
-
--- ---- the rows as the table says them
+-- ---- rows 3, 4 and 5 as the table says them
 
 module _ (b : Tables) (c : Command) where
   pub missing_row : {r : Bool} → (r ≡ true) ↔ ((x : ℕ) × (needed c x ≡ true) × (bit b.live x ≡ false)) → (r ≡ true) ↔ Missing b c

@@ -69,7 +69,7 @@ impl Formed {
         ensures { (k : ℕ) → bit result k ≡ asks self.now.command k }
     {
         match self.code {
-            Code::GiveRights | Code::TakeRights => self.command.rights as u64,
+            Code::GiveRights | Code::TakeRights => u64::from(self.command.rights),
             _ => single(self.command.code as usize - 1),
         }
     }

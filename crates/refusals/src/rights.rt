@@ -14,7 +14,7 @@ fn held_among(rights: &[u8; 64], roles: u64) -> u64
 {
     let mut all: u64 = 0;
     for x in roles_of(roles) {
-        all = union(all, rights[x] as u64);
+        all = union(all, u64::from(rights[x]));
     }
     all
 }

@@ -8,10 +8,10 @@ bounds-rights-role c = role_lt _ c.requires
 
 pub overflow_cast-rights : goal.overflow_cast-rights
 overflow_cast-rights c =
-    record { fits = rights_small c.args.c c.requires _ c.held_after.result (c.fits-rights c.args.c.role) c.held_after.ensures }
+    record { fits = rights_small c.args.c c.requires _ c.held_after.result (c.fits-rights c.args.c.role) (rw c.from-held.ensures at c.held_after.ensures) }
 
 pub bounds-rights-role-2 : goal.bounds-rights-role-2
 bounds-rights-role-2 c = role_lt _ c.requires
 
 pub returns : goal.returns
-returns c = rights_set c.args.c c.args.rights.now (record { rows = search rules; fits = c.fits-rights }) (role_lt c.args.c c.requires) _ c.held_after.ensures
+returns c = rights_set c.args.c c.args.rights.now (record { rows = search rules; fits = c.fits-rights }) (role_lt c.args.c c.requires) _ (rw c.from-held.ensures at c.held_after.ensures)

@@ -18,7 +18,7 @@ returns-in-AddEdge c =
     untouched _ _ _ (omega arith) (λ e. omega (arith, e, edge.0)) (λ e. omega (arith, e, edge.0)) (λ e. omega (arith, e, edge.1)) (λ e. omega (arith, e, edge.1)) refl
 
 pub returns-in-GiveRights : goal.returns-in-GiveRights
-returns-in-GiveRights c = given _ _ _ (omega (arith, c.union.type_inv)) (c.in-Some.ensures ∙ ap code_number c.in-GiveRights.is) c.union.ensures
+returns-in-GiveRights c = given _ _ _ (omega (arith, c.union.type_inv)) (c.in-Some.ensures ∙ ap code_number c.in-GiveRights.is) (λ k. rw (← c.from.ensures) (c.union.ensures k))
 
 pub returns-in-TakeRights : goal.returns-in-TakeRights
-returns-in-TakeRights c = taken _ _ _ (omega (arith, c.minus.type_inv)) (c.in-Some.ensures ∙ ap code_number c.in-TakeRights.is) c.minus.ensures
+returns-in-TakeRights c = taken _ _ _ (omega (arith, c.minus.type_inv)) (c.in-Some.ensures ∙ ap code_number c.in-TakeRights.is) (λ k. rw (← c.from-in-TakeRights.ensures) (c.minus.ensures k))

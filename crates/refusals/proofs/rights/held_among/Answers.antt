@@ -6,4 +6,4 @@ pub loop-x-init : goal.loop-x-init
 loop-x-init c = gathered_start (search rules)
 
 pub loop-x-preserved : goal.loop-x-preserved
-loop-x-preserved c = gathered_turn c.in-Some.ensures.steps c.union-all.ensures c.loop-x.invariant
+loop-x-preserved c = gathered_turn c.in-Some.ensures.steps (λ k. rw (← c.from.ensures) (c.union-all.ensures k)) c.loop-x.invariant

@@ -10,7 +10,7 @@ use Rattle.refusals.proofs.formed.Formed.asked.Goals as goal
 pub returns-in-GiveRights : goal.returns-in-GiveRights
 returns-in-GiveRights c =
     let f = c.args.self.now in
-    λ k. asks_named f.command k (⊎_elim (λ e. let h = f.named ∙ ap code_number e in omega (arith, h)) (λ e. let h = f.named ∙ ap code_number e in omega (arith, h)) c.in-GiveRights.is)
+    λ k. rw c.from.ensures (asks_named f.command k (⊎_elim (λ e. let h = f.named ∙ ap code_number e in omega (arith, h)) (λ e. let h = f.named ∙ ap code_number e in omega (arith, h)) c.in-GiveRights.is))
 
 pub returns-in_default : goal.returns-in_default
 returns-in_default c =
