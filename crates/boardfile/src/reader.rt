@@ -46,6 +46,8 @@ impl<'f> Listed<'f> {
     }
 }
 
+// An edge record. Its kind stays the byte that the file has: `is_right` judges it and `enter` takes its parts, and no other code sees it, so
+// that an enum would be made and taken apart within these lines.
 #[derive(Clone, Copy)]
 struct Edge {
     senior: usize,
