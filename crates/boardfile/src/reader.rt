@@ -46,8 +46,7 @@ impl<'f> Listed<'f> {
     }
 }
 
-// An edge record. Its kind stays the byte that the file has: `is_right` judges it and `enter` takes its parts, and no other code sees it, so
-// that an enum would be made and taken apart within these lines.
+// An edge record that is right by itself.
 #[derive(Clone, Copy)]
 struct Edge {
     senior: usize,
