@@ -128,7 +128,7 @@ fn usable(b: &Board, actor: usize) -> u64 {
     all
 }
 
-// The rights that a command asks for.
+// The rights that a command asks for. `refusals` has this of a command whose numbers are in range, and keeps it to itself.
 fn asked(c: &Command) -> u64 {
     match c.code {
         0 => 0,
@@ -163,7 +163,7 @@ fn has_nobody(manager: &[u8; 64], x: usize) -> bool {
     }
 }
 
-// The lowest live role but 0 without a line manager; 64 where each has one.
+// The lowest live role but 0 without a line manager; 64 where each has one, which would be printed as it stands.
 fn unmanaged(b: &Board) -> usize {
     for x in roles_of(without(b.tables.live, 0)) {
         if has_nobody(&b.kept.manager, x) {

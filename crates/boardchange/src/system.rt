@@ -17,7 +17,7 @@ pub(crate) fn is_nameless(file: &File) -> bool {
     }
 }
 
-// A mode, without what it lets the group do where the file has another group.
+// A mode, without what it lets the group do where the file has another group; `same_group` is what the system answered.
 fn mode_for(mode: u32, same_group: bool) -> u32 {
     if same_group {
         mode

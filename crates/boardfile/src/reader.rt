@@ -90,7 +90,7 @@ impl Edge {
     }
 }
 
-// The row with one junior more, where the kind has the part of its table.
+// The row with one junior more, where the kind has the part of its table: a value, and no step to run.
 fn entered(row: u64, junior: usize, part: bool) -> u64
     ensures { (y : ℕ) → bit result y ≡ (bit row y || (part && same? junior y)) }
 {

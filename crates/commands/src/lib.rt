@@ -50,7 +50,7 @@ pub fn decide(b: &mut Board, c: Command) -> Result<(), Refusal>
     decide_trusting(b, c)
 }
 
-// One command on a board by value.
+// One command on a board by value: for a caller that keeps the board it had, as `Outcome` has both the answer and the board.
 pub fn step(b: Board, c: Command) -> Outcome
     ensures { Decided b c (answer result.answer) result.board }
 {

@@ -14,7 +14,7 @@ use sets::{single, union, with, without};
 use tables::{enter, leave, row_of, set_row};
 
 // What the command does to one table: `seniors` and `juniors` are the sets that command 1 names for it, `part` whether the kind has
-// its part.
+// its part: a value that an entry gets, and no step to run.
 fn edit(t: &mut [u64; 64], c: Command, seniors: u64, juniors: u64, part: bool)
     ensures { t.new ≡ table_after c seniors juniors part t.old }
 {

@@ -23,7 +23,7 @@ pub(crate) fn set_row(t: &mut [u64; 64], x: usize, s: u64)
     }
 }
 
-// s with the role r, or without it, as `part` says.
+// s with the role r, or without it: `part` is the entry that r gets.
 fn put(s: u64, r: usize, part: bool) -> u64
     ensures { (x : ℕ) → bit result x ≡ cond (same? r x) part (bit s x) }
 {

@@ -122,7 +122,7 @@ pub(crate) fn rights(rt: &impl Print, name: &str, b: &Board, r: usize) -> io::Re
     println!(rt; "{name}: {r} holds{}", Rights(held as u32))
 }
 
-// The kind of the edge from x to y, by the two tables: 1 for I, 2 for A and 3 for both; 0 where there is none.
+// The number that is printed for the kind of the edge from x to y, by the two tables: 1 for I, 2 for A and 3 for both; 0 where there is none.
 fn kind_of(t: &Tables, x: usize, y: usize) -> u32 {
     let joins = |table: &[u64; 64]| table.get(x).is_some_and(|juniors| has(*juniors, y));
     u32::from(joins(&t.i)) + 2 * u32::from(joins(&t.a))

@@ -51,7 +51,7 @@ pub(crate) fn unwritten(refusal: Refusal) -> u64
 }
 
 // Where the refusal of a question about a file arose: its own are a number that is no role and a role that isn't there, all others are
-// the file's.
+// the file's. C is told it by a number.
 fn place_of(refusal: Refusal) -> u8
     ensures { result ≡ place_of (number_of refusal) }
 {
@@ -61,7 +61,8 @@ fn place_of(refusal: Refusal) -> u8
     }
 }
 
-// Where the refusal of a writing arose: want of room is its own; a board that isn't sound is refused as a command on it is.
+// Where the refusal of a writing arose, by a number as C is told it: want of room is its own; a board that isn't sound is refused as a
+// command on it is.
 fn place_of_writing(refusal: Refusal) -> u8
     ensures { result ≡ place_of_writing (number_of refusal) }
 {

@@ -12,7 +12,7 @@ pub(crate) struct List {
     members: [u32; 1024],
 }
 
-// What came back: 0 for done, else the number of the refusal.
+// The number that is printed for what came back: 0 for done, else the refusal's.
 fn number_of(answer: Result<(), Refusal>) -> u8 {
     match answer {
         Ok(()) => 0,

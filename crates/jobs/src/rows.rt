@@ -54,7 +54,8 @@ pub(crate) fn is_listed(roles: &[u8; 1024], job: u32) -> bool
     role_of(roles, job) < u32::from(NO_ROLE)
 }
 
-// Who holds a job; nobody, where it is open.
+// Who holds a job; nobody, where it is open. This and the next two ask for a job that is listed, each on its own: a struct for one number,
+// made by `is_listed`, would be no plainer.
 pub(crate) fn holder(marks: &[u8; 1024], members: &[u32; 1024], job: usize) -> Option<u32>
     requires { job < 1024 }
     ensures { HolderOf marks.now members.now job result }

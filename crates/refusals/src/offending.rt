@@ -21,7 +21,7 @@ struct Offender {
     strict: bool,
 }
 
-// The lowest of those that is not within, if any; the same is asked of all of them.
+// The lowest of those that is not within, if any; the same is asked of all of them, and `strict` goes on to whoever offends.
 fn out_of(those: u64, within: u64, strict: bool) -> Option<Offender>
     ensures { MatchOption result (those are_in within) (λ o. LowestOut those within o.role × (o.strict ≡ strict)) }
 {

@@ -15,7 +15,7 @@ use hierarchy::working::Kept;
 use sets::{has, lowest, minus, roles_of, union, with, within};
 
 // What bars a role from the scope of an actor: the actor doesn't derive it; or it does, and so does this other one, the lowest that is
-// unrelated to the actor.
+// unrelated to the actor. Both are causes, so this is no Option.
 #[derive(Clone, Copy, PartialEq, Eq)]
 pub enum Bar {
     NotDerived,
