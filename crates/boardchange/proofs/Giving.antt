@@ -21,7 +21,7 @@ use Rattle.wording.specs.Texts.{pieces, rest_of, word_at, Given}
 use Rattle.wording.specs.Meanings.{Meaning, meaning_of}
 use Rattle.wording.specs.declared.pieces.Pieces.{Pieces}
 use Rattle.wording.proofs.Cutting.{rest_over}
-use Rattle.boardchange.specs.Texts.{meant_by, passed?, line_commands, commands_of, text_commands, some_done, Gave}
+use Rattle.boardchange.specs.Texts.{meant_by, passed?, line_commands, commands_of, some_done, Gave}
 
 -- ---- a line
 
@@ -52,9 +52,6 @@ by_meaning {b = b} {next = next} {done = done} e g = subst (λ (x : Meaning). Ga
 
 pub by_line : {b next : Board} (line : List ℕ) {p done : Bool} → p ≡ passed? line → Gave b (cond p [] (meant_by (meaning_of line))) next done → Gave b (line_commands line) next done
 by_line {b = b} {next = next} line {done = done} e g = subst (λ (p : Bool). Gave b (cond p [] (meant_by (meaning_of line))) next done) e g
-
-pub by_kind : {b next : Board} (text : List ℕ) {p q done : Bool} → p ≡ q → Gave b (text_commands p text) next done → Gave b (text_commands q text) next done
-by_kind {b = b} {next = next} text {done = done} e g = subst (λ (p : Bool). Gave b (text_commands p text) next done) e g
 
 -- ---- the lines so far: k of them, those before s, have been given to b, and left this board
 

@@ -4,6 +4,3 @@ use Rattle.boardchange.proofs.given.line_turn.Goals as goal
 
 pub returns-then-passed_over : goal.returns-then-passed_over
 returns-then-passed_over c = by_line _ (sym c.if-passed_over.true ∙ c.passed_over.ensures) gave_none
-
-pub returns-else-passed_over : goal.returns-else-passed_over
-returns-else-passed_over c = by_line _ (sym c.if-passed_over.false ∙ c.passed_over.ensures) c.turn.ensures
