@@ -8,7 +8,8 @@ use crate::formed::Formed;
 use board::Board;
 use sets::{roles_of, union, with, within};
 
-// The rights that these roles hold among them.
+// The rights that these roles hold among them. `hierarchy` sums rows of 64 bits so; one function for both would carry a bound and its laws for
+// three lines.
 fn held_among(rights: &[u8; 64], roles: u64) -> u64
     ensures { (k : ℕ) → (k is_in result) ↔ HeldAmong rights.now roles k }
 {

@@ -32,7 +32,7 @@ pub(crate) fn code(text: &[u8]) -> Option<u32>
     Some(place as u32 + 1)
 }
 
-// A kind, 1 to 3: a number, since a command has what C hands over.
+// A kind, 1 to 3: a number, since a command has what C hands over. This and the other names differ by the row of names that each one means.
 pub(crate) fn kind(text: &[u8]) -> Option<u32>
     ensures { result ≡ kind_of text.now }
 {
