@@ -18,7 +18,7 @@ pub(crate) struct Asked<'a> {
 }
 
 // One line. Where `aloud` its answer is said, with the line's number before it where it has one. A refusal is told off the board as it
-// is then, since it left that alone.
+// is then, since it left that alone. (A flag: a closure to say it would be passed through the same four functions, and make none shorter.)
 fn turn(rt: HostRuntime, b: &mut Board, line: &[u8], number: Option<usize>, aloud: bool) -> bool
     ensures { Gave b.old (meant_by (meaning_of line.now)) b.new result }
 {
