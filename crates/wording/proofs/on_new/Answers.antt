@@ -2,11 +2,8 @@ use Rattle.std.proofs.Common.{sym, ◌∙◌, ap, arith}
 use Rattle.std.proofs.lemmas.Bool.{eqb-false, eqb-true}
 use Rattle.std.proofs.lemmas.Result.{err_from_is_err_and}
 use Rattle.wording.specs.Names.{role_of, members_of}
-use Rattle.wording.proofs.NewRole.{name_start, name_over, name_none, name_unknown, name_twice, name_bad, name_next, some_of, none_of}
+use Rattle.wording.proofs.NewRole.{name_over, name_none, name_unknown, name_twice, name_bad, name_next, some_of, none_of}
 use Rattle.wording.proofs.on_new.Goals as goal
-
-pub loop-n-init : goal.loop-n-init
-loop-n-init c = name_start _ _
 
 pub returns-then-is_empty : goal.returns-then-is_empty
 returns-then-is_empty c = name_none c.loop-n.invariant c.loop-n-test.true c.word-name.ensures.0 (eqb-true _ _ (sym c.is_empty.ensures ∙ c.if-is_empty.true))
