@@ -12,8 +12,8 @@ use std::io::{Read, Write};
 use std::os::unix::fs::MetadataExt;
 use writer::write;
 
-// Reads until the buffer is full or the input ends, and answers how many bytes stand at its start. `boardlist` has the same few lines: a
-// crate for them alone would be no plainer.
+// Reads until the buffer is full or the input ends, and answers how many bytes stand at its start. (`boardlist` has the same few lines: a crate for
+// them alone would be no plainer. Tried there: std's `copy` in their place takes more stack than its bar.)
 pub(crate) fn read_whole<R: Read>(from: &mut R, out: &mut [u8]) -> io::Result<usize>
     ensures { IfOk result (λ n. n ≤ length out.new) }
 {

@@ -17,8 +17,8 @@ pub(crate) struct Asked<'a> {
     pub(crate) many: bool,
 }
 
-// One line. Where `aloud`, which is so the second time that the same commands are given, its answer is said, with the line's number before
-// it where it has one. A refusal is told off the board as it is then, since it left that alone.
+// One line. Where `aloud` its answer is said, with the line's number before it where it has one. A refusal is told off the board as it
+// is then, since it left that alone. (A flag: a closure to say it would be passed through the same four functions, and make none shorter.)
 fn turn(rt: HostRuntime, b: &mut Board, line: &[u8], number: Option<usize>, aloud: bool) -> bool
     ensures { Gave b.old (meant_by (meaning_of line.now)) b.new result }
 {

@@ -34,8 +34,8 @@ fn list_board(rt: &impl Print, b: &Board) -> io::Result<()> {
     Ok(())
 }
 
-// Reads until the space is full or the input ends, and answers how many bytes stand at its start. `boardchange` has the same few lines: a
-// crate for them alone would be no plainer.
+// Reads until the space is full or the input ends, and answers how many bytes stand at its start. (Tried: std's `copy` in its place takes 22,088
+// bytes of stack, where the bar is 16,360. `boardchange` has the same few lines: a crate for them alone would be no plainer.)
 fn read_full(input: &mut impl Read, space: &mut [u8]) -> io::Result<usize>
     ensures { IfOk result (λ n. n ≤ length space.new) }
 {

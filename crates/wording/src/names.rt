@@ -20,7 +20,7 @@ fn place_in(text: &[u8], names: &[u8]) -> Option<usize>
     None
 }
 
-// A command, 1 to 7, by its name.
+// A command by its name: its number, 1 to 7, which C's `Command` has for it.
 pub(crate) fn code(text: &[u8]) -> Option<u32>
     ensures value { result ≡ code_of text.now }
     ensures bound { IfSome result (λ k. k ≤ 7) }
@@ -32,7 +32,7 @@ pub(crate) fn code(text: &[u8]) -> Option<u32>
     Some(place as u32 + 1)
 }
 
-// A kind, 1 to 3: a number, since a command has what C hands over. This and the other names differ by the row of names that each one means.
+// A kind by its name: its number, 1 to 3, which C's `Command` has for it.
 pub(crate) fn kind(text: &[u8]) -> Option<u32>
     ensures { result ≡ kind_of text.now }
 {

@@ -71,7 +71,7 @@ impl<'a> Iterator for Pieces<'a> {
 }
 
 // The word at a place of a line, counted from 0, as a part of the line; it has no byte, and lies at the line's start, where the line has no
-// such word.
+// such word. (No Option: `WordOf` says of a missing word too where it lies.)
 pub fn word(line: &[u8], k: usize) -> &[u8]
     ensures { WordOf line.now line.entry.ref_ptr k result.now result.ref_ptr }
 {
