@@ -7,14 +7,14 @@ ghost use Rattle.answers.specs.Packing.{answer, reason, answer_of};
 
 use board::answers::{Cause, Refusal};
 
-// The three parts of an answer in one number.
+// The three parts of an answer in one number, each a number as C has it.
 pub fn packed(number: u8, place: u8, value: u16) -> u64
     ensures { result ≡ answer number place value }
 {
     u64::from(number) + 256 * u64::from(place) + 65536 * u64::from(value)
 }
 
-// Who offends, the cause and the role in the way, above these.
+// Who offends, the cause and the role in the way, above these: numbers likewise.
 pub fn reason(who: u8, cause: u8, way: u8) -> u64
     ensures { result ≡ reason who cause way }
 {
