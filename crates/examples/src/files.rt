@@ -3,7 +3,7 @@ use crate::lines::refused;
 use crate::words::Bytes;
 use board::answers::Refusal;
 use boardfile::read;
-use boardfile::stretches::stretch;
+use boardfile::stretches;
 use exampleboards::IA;
 use scopes::kinds::join;
 use std::io;
@@ -15,7 +15,7 @@ pub(crate) const EXAMPLE: [u8; 15] = [0, 1, 2, 0, 1, 1, 1, 2, 2, 6, 0, 9, 0, 72,
 // The edge records of a senior, as they stand in the file.
 pub(crate) fn records(rt: &impl Print, name: &str, file: &[u8], role: u32) -> io::Result<()> {
     print!(rt; "{name}: edge records of {role}:")?;
-    match stretch(file, role) {
+    match stretches::records(file, role) {
         Ok(part) => println!(rt; "{}", Bytes(part)),
         Err(why) => {
             print!(rt; " ")?;
