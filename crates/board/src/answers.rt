@@ -61,7 +61,7 @@ pub enum Refusal {
 }
 
 impl Refusal {
-    // The number that the rules and C know it by.
+    // The number that the rules and C know it by. A method and no `From`: it is read as a name.
     pub fn number(self) -> u8
         ensures { result ≡ number_of self }
     {

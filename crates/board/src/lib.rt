@@ -68,7 +68,8 @@ impl Board {
 }
 
 // What a coordinator asks for. `role` is the role of commands 1, 2, 6 and 7, and the senior of 3, 4 and 5; `rights` are those that 6
-// gives and 7 takes. A field that a command doesn't use may hold anything. Numbers are as wide as a caller's, so that one that is no role stays none and is refused.
+// gives and 7 takes. A field that a command doesn't use may hold anything. Numbers are as wide as a caller's, C's among them, so that one
+// that is no role stays none and is refused.
 #[repr(C)]
 #[derive(Clone, Copy)]
 pub struct Command {
@@ -97,7 +98,7 @@ pub enum Code {
 }
 
 impl Command {
-    // The command that the number `code` names, or none.
+    // The command that the number `code` names, or none: an Option, as for a kind.
     pub fn named(&self) -> Option<Code>
         ensures { IsCode self.now.code result }
     {
@@ -112,6 +113,7 @@ impl Command {
             _ => None,
         }
     }
+
     // The kind of edge that the number `kind` names, or none.
     pub fn edge_kind(&self) -> Option<Kind>
         ensures { IsKind self.now.kind result }

@@ -12,7 +12,7 @@ pub enum Kind {
 }
 
 impl Kind {
-    // The kind that a number names, or none.
+    // The kind that a number names, or none. An Option and no `TryFrom`: of a number that names none there is nothing more to say.
     pub fn of(number: u32) -> Option<Kind>
         ensures { IsKind number result }
     {

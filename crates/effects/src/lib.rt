@@ -13,8 +13,8 @@ use hierarchy::tables::Tables;
 use sets::{single, union, with, without};
 use tables::{enter, leave, row_of, set_row};
 
-// What the command does to one table: `seniors` and `juniors` are the sets that command 1 names for it, `part` whether the kind has
-// its part: a value that an entry gets, and no step to run.
+// What the command does to one table: `seniors` and `juniors` are the sets that command 1 names for it. `part` is whether the kind has its
+// part: to add or to remove an edge is nothing without it, and where an edge is changed it is what the entry becomes.
 fn edit(t: &mut [u64; 64], c: Command, seniors: u64, juniors: u64, part: bool)
     ensures { t.new ≡ table_after c seniors juniors part t.old }
 {

@@ -123,7 +123,7 @@ pub fn command(code: u32, actor: u32, role: u32, junior: u32, kind: u32, rights:
     }
 }
 
-// A role added between seniors and juniors,
+// A role added between seniors and juniors.
 pub fn add_between(
     actor: u32,
     role: u32,
@@ -143,7 +143,7 @@ pub fn add_between(
     }
 }
 
-// and under seniors alone.
+// A role added under seniors alone.
 pub fn add_role(actor: u32, role: u32, a_seniors: u64, i_seniors: u64) -> Command
     ensures { result ≡ add_role actor role a_seniors i_seniors }
 {

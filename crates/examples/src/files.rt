@@ -2,8 +2,7 @@
 use crate::lines::refused;
 use crate::words::Bytes;
 use board::answers::Refusal;
-use boardfile::read;
-use boardfile::stretches;
+use boardfile::{read, stretches};
 use exampleboards::IA;
 use scopes::kinds::join;
 use std::io;
@@ -24,7 +23,7 @@ pub(crate) fn records(rt: &impl Print, name: &str, file: &[u8], role: u32) -> io
     }
 }
 
-// Reads the board in the file and writes it into a buffer from a place on; gives the length of what was written.
+// Reads the board in the file and writes it into a buffer from a place on, as `write` has it; gives the length of what was written.
 fn copied(file: &[u8], out: &mut [u8], at: usize) -> Result<usize, Refusal> {
     let board = read(file)?;
     write(&board, out, at)

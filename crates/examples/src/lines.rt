@@ -1,4 +1,5 @@
-// The lines that the program writes. What was asked is written from the very values that are asked about.
+// The lines that the program writes. What was asked is written from the very values that are asked about: each function has the board's name
+// and the board, as they stand in the line.
 use crate::words::{Answered, Asked, Reason, Rights, yes_or_no};
 use board::answers::{Cause, Refusal};
 use board::{Board, Command, checks};

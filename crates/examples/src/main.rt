@@ -1,5 +1,5 @@
-// Runs every example of document 01, and those of the requests, through the board's own functions and writes a line for each: what was asked, then what came
-// back. `stdout` has the same lines, worked out by hand from the documents.
+// Runs every example of document 01, and those of the requests, through the board's own functions and writes a line for each: what was asked,
+// then what came back. `stdout` has the same lines, worked out by hand from the documents.
 #![tactic(auto)]
 
 use board::Command;
@@ -223,7 +223,7 @@ fn coming_and_going(rt: &impl Print) -> io::Result<()> {
     )
 }
 
-// Request 4: a right that was lost,
+// Request 4: a right that was lost.
 fn lost_right(rt: &impl Print) -> io::Result<()> {
     let lost = lines::asked(rt, "P", &p(), take_rights(0, 1, 0b10000))?;
     let commands = [
@@ -237,7 +237,7 @@ fn lost_right(rt: &impl Print) -> io::Result<()> {
     Ok(())
 }
 
-// and one that is held by a role that the actor derives; role 0 reaches role 3 and does not derive it.
+// Request 4: a right that is held by a role that the actor derives; role 0 reaches role 3 and does not derive it.
 fn right_below(rt: &impl Print) -> io::Result<()> {
     let below = lines::asked(rt, "P", &p(), give_rights(1, 3, 0b00001))?;
     let by_3 = lines::asked(rt, "P, 3 with right 1", &below, take_rights(0, 1, 0b00001))?;

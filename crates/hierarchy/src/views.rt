@@ -20,6 +20,7 @@ fn rows(table: &[u64; 64], s: u64) -> u64
 }
 
 // The row of role x is what it has of its own and the rows of its juniors in the table. Both are lent apart: it is called for I and for A.
+// (That a number is a role is asked of three functions here: a type for it would be made anew at each turn of their loops.)
 fn settle(table: &[u64; 64], reach: &mut [u64; 64], x: usize, own: u64) -> u64
     requires { x < 64 }
     ensures { RowSettled table.now reach.old x own result reach.new }

@@ -6,7 +6,7 @@ use crate::tables::Tables;
 use crate::views::{fill_down, fill_up};
 
 // Row x of `derives` is the set of what role x derives, row x of `derivers` of what derives x, and `manager` has the line managers, with 64
-// for none.
+// for none. C has the three as they stand here.
 #[repr(C)]
 #[derive(Clone, Copy, PartialEq, Eq)]
 pub struct Kept {

@@ -37,7 +37,7 @@ pub(crate) fn copy(listed: &[u8], roles: &mut [u8; 1024])
     }
 }
 
-// The role that a job is listed under; 64 past the list.
+// The role that a job is listed under; 64 past the list, which the question refuses in its own order.
 pub(crate) fn role_of(roles: &[u8; 1024], job: u32) -> u32
     ensures { result ≡ role_at roles.now job }
 {

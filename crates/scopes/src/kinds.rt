@@ -11,8 +11,7 @@ const JOIN: [[u8; 5]; 5] = [
     [0, 4, 0, 4, 0],
 ];
 
-// The kind that a step of the first kind and then one of the second join to; past 4 there is no kind, and the answer is 0. Kinds are numbers
-// here, since `join` of the tables answers for every number.
+// The kind that a step of the first kind and then one of the second join to; past 4 there is no kind, and the answer is 0.
 pub fn join(first: usize, second: usize) -> u8
     ensures { result ≡ join first second }
 {

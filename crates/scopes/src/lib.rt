@@ -30,7 +30,8 @@ fn related(kept: &Kept, a: usize) -> u64
     union(kept.derivers[a], kept.derives[a])
 }
 
-// Whether r is in the scope of a: a derives r, and whatever derives r is above or below a.
+// Whether r is in the scope of a: a derives r, and whatever derives r is above or below a. Not by `bars`, which would look for the lowest in
+// the way as well, for each role that `scope` asks about.
 pub fn in_scope(kept: &Kept, a: usize, r: usize) -> bool
     ensures { (result ≡ true) ↔ ScopeBy kept.now.derives kept.now.derivers a r }
 {

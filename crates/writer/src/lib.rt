@@ -62,7 +62,8 @@ fn layout_of(t: &Tables, rights: &[u8; 64]) -> Layout
     }
 }
 
-// The file of the board of these tables and rights, sound or not, into a buffer, from a place on; and its length.
+// The file of the board of these tables and rights, sound or not, into a buffer, from a place on; and its length. A file has nothing of what
+// a board keeps besides.
 // `at` stays beside the buffer: `NoRoom.past_end` speaks of a place past its end.
 pub fn put(t: &Tables, rights: &[u8; 64], out: &mut [u8], at: usize) -> Result<usize, Refusal>
     ensures { PutAnswer (file_of t.now rights.now) out.old at out.new (number result) (value_or 0 result) }

@@ -9,7 +9,8 @@ use board::answers::Refusal;
 use hierarchy::tables::Tables;
 use sets::{has, size};
 
-// Where the edge records of one senior begin in the file, and how many bytes they are; 0 and 0 where it has none.
+// Where the edge records of one senior begin in the file, and how many bytes they are; 0 and 0 where it has none, as `start_or_none` has
+// it.
 #[derive(Clone, Copy, PartialEq, Eq)]
 pub struct Span {
     pub start: usize,
