@@ -1,4 +1,5 @@
-// An answer in one number, as C is told it: the refusal number, where it arose, and a value, and above them who offends and why. Knows an answer, and no board.
+// An answer in one number, as C is told it: the refusal number, where it arose, and a value, and above them who offends and why. Knows an
+// answer, and no board.
 #![tactic(auto)]
 
 ghost use Rattle.std.specs.Prelude.{◌≡◌};
