@@ -1,11 +1,13 @@
 -- The commands of a text, one or many, and what giving them to a board leaves: a run, as request 6 has it.
-use Rattle.std.specs.Prelude.{◌≡◌, Bool, true, false, cond, ◌||◌, List, [], ◌∷◌, ◌++◌, Ok, Err, ℕ, eqb, length, get_or}
+use Rattle.std.specs.Prelude.{◌≡◌, Bool, false, cond, ◌||◌, List, [], ◌∷◌, ◌++◌, Ok, Err, ℕ, eqb, length, get_or}
 use Rattle.board.specs.declared.Board.{Board}
 use Rattle.board.specs.declared.Command.{Command}
 use Rattle.board.specs.Answers.{Answer}
 use Rattle.runs.specs.Runs.{Ran}
 use Rattle.wording.specs.Texts.{pieces, word_at}
 use Rattle.wording.specs.Meanings.{Meaning, meaning_of}
+use Rattle.boardchange.specs.declared.given.Asked.{Asked}
+use Rattle.boardchange.specs.declared.given.Asked.TheVariants.{One, Many}
 
 -- the command that a line means, if it means one
 abbrev pub meant_by : Meaning → List Command
@@ -23,10 +25,10 @@ unfoldable pub commands_of : List (List ℕ) → List Command
 commands_of [] = []
 commands_of (line ∷ lines) = line_commands line ++ commands_of lines
 
--- a text of many has a command a line; else it is one command
-abbrev pub text_commands : Bool → List ℕ → List Command
-text_commands true text = commands_of (pieces 10 text)
-text_commands false text = meant_by (meaning_of text)
+-- a text is one command, or has a command a line
+abbrev pub text_commands : Asked → List Command
+text_commands (One text) = meant_by (meaning_of text.now)
+text_commands (Many text) = commands_of (pieces 10 text.now)
 
 -- whether one of them was done
 unfoldable pub some_done : List Answer → Bool

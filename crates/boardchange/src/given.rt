@@ -10,11 +10,11 @@ use commands::decide;
 use wording::meant;
 use wording::pieces::{NEWLINE, pieces_of, word};
 
-// What is asked for: the text is one command, or `many`, one a line.
+// The text of what is asked for: one command, or many, one a line.
 #[derive(Clone, Copy)]
-pub(crate) struct Asked<'a> {
-    pub(crate) text: &'a [u8],
-    pub(crate) many: bool,
+pub(crate) enum Asked<'a> {
+    One(&'a [u8]),
+    Many(&'a [u8]),
 }
 
 // One line. Where `aloud` its answer is said, with the line's number before it where it has one. A refusal is told off the board as it
@@ -71,11 +71,10 @@ fn all_given(rt: HostRuntime, b: &mut Board, text: &[u8], aloud: bool) -> bool
 
 // Gives the commands of a text.
 pub(crate) fn given(rt: HostRuntime, b: &mut Board, asked: Asked, aloud: bool) -> bool
-    ensures { Gave b.old (text_commands asked.entry.many asked.entry.text.now) b.new result }
+    ensures { Gave b.old (text_commands asked.entry) b.new result }
 {
-    if asked.many {
-        all_given(rt, b, asked.text, aloud)
-    } else {
-        turn(rt, b, asked.text, None, aloud)
+    match asked {
+        Asked::One(line) => turn(rt, b, line, None, aloud),
+        Asked::Many(text) => all_given(rt, b, text, aloud),
     }
 }

@@ -31,8 +31,8 @@ fn one_word(text: &[u8]) -> bool {
     !text.is_empty() && word(text, 0).len() == text.len()
 }
 
-// Puts argument k, which std writes into bytes that are lent, into the buffer from `at` on, with a blank behind it, and answers where that
-// ends; none where it is no word, or too long.
+// Puts argument k into the buffer from `at` on, with a blank behind it, and answers where that ends; none where it is no word, or too long.
+// No heap: std fills bytes that are lent.
 fn put_argument(rt: HostRuntime, k: usize, out: &mut [u8], at: usize) -> Option<usize>
     ensures { IfSome result (λ end. end ≤ length out.new) }
 {

@@ -188,14 +188,7 @@ fn change_by_input(rt: HostRuntime, names: Names) {
             rt,
             "refused 2: the input has more than 60000 bytes; nothing of it was tried",
         ),
-        Ok(n) => change(
-            rt,
-            names,
-            Asked {
-                text: &space[..n],
-                many: true,
-            },
-        ),
+        Ok(n) => change(rt, names, Asked::Many(&space[..n])),
         Err(why) => fail(rt, "standard input", why),
     }
 }
@@ -217,24 +210,15 @@ fn say_no_word(rt: HostRuntime, k: usize) {
 fn change_by_words(rt: HostRuntime, names: Names) {
     let mut space = [0u8; WORDS];
     match gather(rt, &mut space) {
-        Ok(n) => change(
-            rt,
-            names,
-            Asked {
-                text: &space[..n],
-                many: false,
-            },
-        ),
+        Ok(n) => change(rt, names, Asked::One(&space[..n])),
         Err(NoWord(k)) => say_no_word(rt, k),
     }
 }
 
 fn asks_to_found(rt: HostRuntime) -> bool {
     let mut text = [0u8; 8];
-    match rt.arg(2, &mut text) {
-        Ok(n) => &text[..n] == b"found".as_slice(),
-        Err(_) => false,
-    }
+    rt.arg(2, &mut text)
+        .is_ok_and(|n| &text[..n] == b"found".as_slice())
 }
 
 fn act(rt: HostRuntime, names: Names) {
@@ -245,7 +229,7 @@ fn act(rt: HostRuntime, names: Names) {
     }
 }
 
-// The same, with the lock's name from that of the file.
+// Acts on the file of this name, where it can be a board's: neither empty, nor a lock, nor a link, nor too long to have a lock of its own.
 fn act_on(rt: HostRuntime, name: &str) {
     if name.is_empty() {
         complain(rt, "FILE", ": it has no name");

@@ -1,6 +1,7 @@
 // What a command was answered, in words that a coordinator can act on.
 use crate::lines::{Quoted, say};
 use board::answers::{Cause, Refusal};
+use board::parts::Kind;
 use board::{Board, Code, Command};
 use effects::effect;
 use hierarchy::tables::Tables;
@@ -82,25 +83,23 @@ fn named(c: &Command) -> u64 {
     }
 }
 
-fn kind_name(kind: u32) -> &'static str {
-    match kind {
-        1 => "I",
-        2 => "A",
-        3 => "IA",
-        _ => "nothing",
+fn kind_name(c: &Command) -> &'static str {
+    match c.edge_kind() {
+        Some(Kind::I) => "I",
+        Some(Kind::A) => "A",
+        Some(Kind::IA) => "IA",
+        None => "nothing",
     }
 }
 
 // Whether the table has the edge that the command names.
 fn joins(t: &[u64; 64], c: &Command) -> bool {
-    match t.get(c.role as usize) {
-        Some(juniors) => has(*juniors, c.junior as usize),
-        None => false,
-    }
+    t.get(c.role as usize)
+        .is_some_and(|juniors| has(*juniors, c.junior as usize))
 }
 
 // The kind of the edge that the command names, if there is one.
-fn standing(t: &Tables, c: &Command) -> Option<&'static str> {
+fn kind_there(t: &Tables, c: &Command) -> Option<&'static str> {
     match (joins(&t.i, c), joins(&t.a, c)) {
         (true, true) => Some("IA"),
         (true, false) => Some("I"),
@@ -110,19 +109,16 @@ fn standing(t: &Tables, c: &Command) -> Option<&'static str> {
 }
 
 // The rights that a role holds.
-fn held(rights: &[u8; 64], x: usize) -> u64 {
-    match rights.get(x) {
-        Some(own) => u64::from(*own),
-        None => 0,
-    }
+fn rights_held(rights: &[u8; 64], x: usize) -> u64 {
+    rights.get(x).map_or(0, |own| u64::from(*own))
 }
 
-// The rights that a role may use: its own, and those of the roles that it derives.
+// The rights that a role may use: its own, and those of the roles that it derives. `refusals` sums them so, and keeps it to itself.
 fn usable(b: &Board, actor: usize) -> u64 {
     let mut all = 0;
     if let Some(derived) = b.kept.derives.get(actor) {
         for x in roles_of(*derived) {
-            all = union(all, held(&b.rights, x));
+            all = union(all, rights_held(&b.rights, x));
         }
     }
     all
@@ -130,10 +126,10 @@ fn usable(b: &Board, actor: usize) -> u64 {
 
 // The rights that a command asks for. `refusals` has this of a command whose numbers are in range, and keeps it to itself.
 fn asked(c: &Command) -> u64 {
-    match c.code {
-        0 => 0,
-        1..=5 => single(c.code as usize - 1),
-        _ => u64::from(c.rights),
+    match c.named() {
+        Some(Code::GiveRights | Code::TakeRights) => u64::from(c.rights),
+        Some(_) => single(c.code as usize - 1),
+        None => 0,
     }
 }
 
@@ -157,10 +153,7 @@ fn left_by(b: &Board, c: &Command) -> Board {
 }
 
 fn has_nobody(manager: &[u8; 64], x: usize) -> bool {
-    match manager.get(x) {
-        Some(own) => *own == Board::NO_MANAGER,
-        None => false,
-    }
+    manager.get(x).is_some_and(|own| *own == Board::NO_MANAGER)
 }
 
 // The lowest live role but 0 without a line manager; 64 where each has one, which would be printed as it stands.
@@ -206,7 +199,7 @@ impl fmt::Display for Reason<'_> {
 }
 
 impl Reason<'_> {
-    // 3: the lowest role that the command names and that isn't live.
+    // 3: the lowest role that the command names and that isn't live; 64 is printed where there is none, as `unmanaged` has it.
     fn absent<W: fmt::Write>(&self, f: &mut fmt::Formatter<W>) -> fmt::Result {
         let absent = lowest(minus(named(self.command), self.board.tables.live)).unwrap_or(64);
         write!(f, "role {absent} isn't live: no such role is on the board")
@@ -220,7 +213,7 @@ impl Reason<'_> {
         if matches!(c.named(), Some(Code::AddRole)) {
             return write!(f, "role {role} is on the board already");
         }
-        let kind = kind_name(c.kind);
+        let kind = kind_name(c);
         write!(
             f,
             "the edge from role {role} to role {junior} already has {kind}"
@@ -231,7 +224,7 @@ impl Reason<'_> {
     fn lacking<W: fmt::Write>(&self, f: &mut fmt::Formatter<W>) -> fmt::Result {
         let role = self.command.role;
         let junior = self.command.junior;
-        match standing(&self.board.tables, self.command) {
+        match kind_there(&self.board.tables, self.command) {
             Some(kind) => write!(
                 f,
                 "the edge from role {role} to role {junior} has only {kind}"

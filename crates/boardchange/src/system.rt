@@ -11,10 +11,7 @@ pub(crate) fn nap(rt: HostRuntime) {
 
 // Whether an open file has no name any more.
 pub(crate) fn is_nameless(file: &File) -> bool {
-    match file.metadata() {
-        Ok(of) => of.nlink() == 0,
-        Err(_) => true,
-    }
+    file.metadata().map_or(true, |of| of.nlink() == 0)
 }
 
 // A mode, without what it lets the group do where the file has another group; `same_group` is what the system answered.
