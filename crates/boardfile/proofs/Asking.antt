@@ -6,11 +6,14 @@ use mathlib.Core.List.{List, [], ◌∷◌}
 use Prim.Native.Nat.{ℕ, ◌+◌, ◌≤◌, ◌<◌}
 use native.Mathlib.Omega.{arith}
 use lib.ListN.{length, take, drop}
+use Rattle.std.specs.Prelude.{Result, Err}
+use Rattle.std.specs.Result.{IsErrAnd}
+use Rattle.std.proofs.lemmas.Result.{err_from_is_err_and}
 use Rattle.sets.specs.Sets.{◌is_in◌}
 use Rattle.hierarchy.specs.Tables.{Tables}
 use Rattle.hierarchy.specs.First.{First}
 use Rattle.board.specs.Boards.{tables_of}
-use Rattle.board.specs.Answers.{number_of}
+use Rattle.board.specs.Answers.{number, number_of}
 use Rattle.board.specs.Asked.{misnamed, Answered}
 use Rattle.board.specs.declared.Board.{Board}
 use Rattle.board.specs.declared.answers.Refusal.{Refusal}
@@ -35,6 +38,13 @@ own f x y = (2, (63 < x) ⊎ (63 < y)) ∷ (3, TablesIn f (λ t. (x is_in t.live
 -- of a file that is refused nothing is asked
 pub unopened : {f : List ℕ} {b : Board} {A : Type 0} {Right : A → Type 0} {none : A} (x y : ℕ) (r : Refusal) → Opening f (number_of r) b → Answered (asked_refusals f x y) Right none (number_of r) none
 unopened {f} x y r o = answer_refused (first_refused (refusals f) (own f x y) (number_of r) (number_of_some r) o.numbered) (number_of_some r)
+
+-- the same where `?` hands the refusal on; `value` is what the question says, by its answer
+pub handed_on : {f : List ℕ} {b : Board} {A V : Type 0} {Right : V → Type 0} {r : Result A Refusal} {e : Refusal} (x y : ℕ) (value : Result A Refusal → V)
+    → IsErrAnd r (λ d. d ≡ e) → Opening f (number_of e) b → Answered (asked_refusals f x y) Right (value (Err e)) (number r) (value r)
+handed_on {r} {e} x y value h o =
+    let p = err_from_is_err_and r h in
+    rw (p.1, p.2) (unopened x y e o)
 
 module _ {f : List ℕ} {b : Board} (r : ReadAnswer f 0 b) where
   asked_own : (x y n : ℕ) → First (misnamed b.tables.live x y) n → First (asked_refusals f x y) n

@@ -1,19 +1,23 @@
 -- The pieces of a text from a place on: where the first of them ends, and what lies behind it. Every loop over pieces goes by `turn`.
 -- Assumes nothing.
-use mathlib.Core.Path.{◌≡◌, refl, sym, ap, ◌∙◌}
-use borrow.Author.Tests.{ltb-false}
+use mathlib.Core.Path.{◌≡◌, refl, sym, subst, ap, ◌∙◌}
+use borrow.Author.Tests.{ltb-false, eqb-true, eqb-false}
 use mathlib.Core.Bool.{Bool, true, false, cond}
 use mathlib.Core.List.{List, [], ◌∷◌}
-use Rattle.std.specs.Prelude.{Some, None, unwrap_or, nat_lt, not}
-use Rattle.std.specs.List.{position, position_or_len, slice_range}
+use Rattle.std.specs.Prelude.{Option, Some, None, unwrap_or, nat_lt, not, eqb}
+use Rattle.std.specs.List.{position, position_or_len, slice_range, FoldsTo}
 use Rattle.std.specs.Borrow.{Bor}
+use Rattle.std.specs.Fn.{CalledAt, Mut}
+use Rattle.std.specs.Iterator.{Yields, SkipsThenYields}
+use Rattle.std.specs.Iterator.Adapters.{filter_steps, filter_source, filter_callee}
+use Rattle.std.specs.declared.iter.Filter.{Filter}
 use Rattle.wording.specs.declared.pieces.Pieces.{Pieces}
 use Prim.Native.Nat.{ℕ, zero, suc, ◌+◌, ◌-◌, ◌≤◌, ◌<◌, zero-le, suc-le-suc}
 use native.Mathlib.Nat.{le_of_suc-le-suc, not-suc-le-zero, suc-add, zero-add}
 use native.Mathlib.Omega.{arith}
 use lib.ListN.{length, get_or, take, drop, length-take, length-drop, drop_of_length-le}
 use lib.Seq.{take-length}
-use Rattle.wording.specs.Texts.{separates, piece, longer, pieces, filled, word_at, beginnings, word_start, rest_of, Given, WordOf}
+use Rattle.wording.specs.Texts.{separates, piece, longer, pieces, filled, word_at, beginnings, word_start, rest_of, Given, Cut, WordOf}
 
 -- ---- where a piece ends
 
@@ -145,12 +149,12 @@ pub record Looking (line : Bor (List ℕ)) (k left : ℕ) (s : Pieces) : Type 0 
   pub same : get_or (filled (rest_of 32 line.now s.from)) left [] ≡ word_at line.now k
   pub begins : get_or (beginnings s.from (rest_of 32 line.now s.from)) left 0 ≡ word_start line.now k
 
-pub look_start : (s : Pieces) (k : ℕ) → s.from ≡ 0 → s.sep ≡ 32 → Looking s.text k k s
+pub look_start : (s : Pieces) (line : Bor (List ℕ)) (k : ℕ) → s.text ≡ line → s.from ≡ 0 → s.sep ≡ 32 → Looking line k k s
 unfolding rest_of
-look_start s k z e = record { text = refl; sep = e; same = rw z; begins = rw z }
+look_start s line k t z e = record { text = t; sep = e; same = rw z; begins = rw z }
 
 module _ {line : Bor (List ℕ)} {s : Pieces} {k left : ℕ} (l : Looking line k left s) where
-  pub look_over : length s.text.now < s.from → WordOf line.now line.ref_ptr k [] line.ref_ptr
+  look_over : length s.text.now < s.from → WordOf line.now line.ref_ptr k [] line.ref_ptr
   unfolding filled beginnings
   look_over h =
       let over : length line.now < s.from = rw l.text at h in
@@ -161,7 +165,7 @@ module _ {line : Bor (List ℕ)} {s : Pieces} {k left : ℕ} (l : Looking line k
     cut : rest_of 32 line.now s.from ≡ part.now ∷ rest_of 32 line.now t.from
     cut = rw (l.text, l.sep) at g.first
 
-    pub look_none : length part.now ≡ 0 → Looking line k left t
+    look_none : length part.now ≡ 0 → Looking line k left t
     look_none z = record {
       text = g.same_text ∙ l.text;
       sep = g.same_sep ∙ l.sep;
@@ -172,12 +176,12 @@ module _ {line : Bor (List ℕ)} {s : Pieces} {k left : ℕ} (l : Looking line k
         next : s.from + 1 ≡ t.from
         next = omega (arith, g.behind)
 
-    pub look_here : (length part.now ≡ 0 → ⊥) → left ≡ 0 → WordOf line.now line.ref_ptr k part.now part.ref_ptr
+    look_here : (length part.now ≡ 0 → ⊥) → left ≡ 0 → WordOf line.now line.ref_ptr k part.now part.ref_ptr
     look_here h z =
         let start : s.from ≡ word_start line.now k = rw (cut, begins_some s.from part.now (rest_of 32 line.now t.from) h, z) at l.begins in
         (rw (cut, filled_some part.now (rest_of 32 line.now t.from) h, z) at l.same, rw l.text at g.block, rw (l.text, start) at g.begins)
 
-    pub look_past : (length part.now ≡ 0 → ⊥) → (left ≡ 0 → ⊥) → Looking line k (left - 1) t
+    look_past : (length part.now ≡ 0 → ⊥) → (left ≡ 0 → ⊥) → Looking line k (left - 1) t
     look_past h z = record {
       text = g.same_text ∙ l.text;
       sep = g.same_sep ∙ l.sep;
@@ -187,3 +191,33 @@ module _ {line : Bor (List ℕ)} {s : Pieces} {k left : ℕ} (l : Looking line k
       where
         more : left ≡ suc (left - 1)
         more = omega arith
+
+-- ---- the words that `filter` keeps of the pieces, where it asks of each whether it has a byte
+
+module _ {F : Type 0} {g : Mut F (Bor (Bor (List ℕ)) × Unit {0}) Bool}
+    (asks : (f : F) (p : Bor (List ℕ)) (r : Bool) (f' : F) → CalledAt g f p r f' → eqb (length p.now) 0 ≡ not r)
+    {line : Bor (List ℕ)} {k : ℕ} where
+  -- the pieces that it passes over
+  skipped : {left : ℕ} (s t : Pieces) (ps : List (Bor (List ℕ))) (f f' : F)
+      → Yields Cut s ps t → FoldsTo (λ f p f'. CalledAt g f p false f') f ps f' → Looking line k left s → Looking line k left t
+  skipped {left} s t [] f f' e h l = subst (λ (u : Pieces). Looking line k left u) e l
+  skipped s t (p ∷ ps) f f' (u, gives, more) (j, called, calls) l = skipped u t ps j f' more calls (look_none l gives (eqb-true _ _ (asks f p false j called)))
+
+  -- the words before the one that is looked for
+  passed : (left : ℕ) (s t : Filter Pieces F) (ps : List (Bor (List ℕ)))
+      → Yields (filter_steps Cut g) s ps t → length ps ≤ left → Looking line k left (filter_source s) → Looking line k (left - length ps) (filter_source t)
+  passed left s t [] e h l = subst (λ (n : ℕ). Looking line k n (filter_source t)) (omega arith) (subst (λ u. Looking line k left (filter_source u)) e l)
+  passed left s t (p ∷ ps) (u, (xs, f, (v, over, gives), calls, called), more) h l =
+      let here : Looking line k left v = skipped (filter_source s) v xs (filter_callee s) f over calls l in
+      let past : Looking line k (left - 1) (filter_source u) = look_past here gives (eqb-false _ _ (asks f p true (filter_callee u) called)) (omega arith) in
+      let fewer : left - 1 - length ps ≡ left - suc (length ps) = omega arith in
+      rw fewer at (passed (left - 1) u t ps more (omega arith) past)
+
+  -- the word there, or none
+  pub word_found : (s u : Filter Pieces F) (r : Option (Bor (List ℕ))) (none : Bor (List ℕ)) → SkipsThenYields (filter_steps Cut g) s k r u → Looking line k k (filter_source s)
+      → none.now ≡ [] → none.ref_ptr.0 ≡ line.ref_ptr.0 → none.ref_ptr.1 ≡ line.ref_ptr.1 → WordOf line.now line.ref_ptr k (unwrap_or r none).now (unwrap_or r none).ref_ptr
+  word_found s u (Some p) none (ps, (t, before, (xs, f, (v, over, gives), calls, called)), many) l e b a =
+      look_here (skipped (filter_source t) v xs (filter_callee t) f over calls (passed k s t ps before (omega (arith, many)) l)) gives
+      (eqb-false _ _ (asks f p true (filter_callee u) called)) (omega (arith, many))
+  word_found s u None none (ps, (t, before, (xs, f, (v, over, end), calls, called)), many) l e b a =
+      rw (e, b, a) (look_over (skipped (filter_source t) v xs (filter_callee t) f over calls (passed k s t ps before many l)) end)

@@ -75,14 +75,8 @@ impl<'a> Iterator for Pieces<'a> {
 pub fn word(line: &[u8], k: usize) -> &[u8]
     ensures { WordOf line.now line.entry.ref_ptr k result.now result.ref_ptr }
 {
-    let mut left = k;
-    for piece in pieces_of(line, BLANK) {
-        if !piece.is_empty() {
-            if left == 0 {
-                return piece;
-            }
-            left -= 1;
-        }
-    }
-    &line[0..0]
+    pieces_of(line, BLANK)
+        .filter(|piece| !piece.is_empty())
+        .nth(k)
+        .unwrap_or(&line[0..0])
 }

@@ -274,9 +274,6 @@ module _ {live roles edges : ℕ} {plain : Bool} {d : List ℕ} (room : TailRoom
       held_put : Put hs d held
       held_put = put_first hs d p roles held_are (omega (arith, rights_fit)) first
 
-      pub held_long : length held ≡ length d
-      held_long = put_length hs d held held_put (omega (arith, held_are, rights_fit))
-
       pub rights_put : (e : ℕ) → e ≡ edges_back roles edges → (q : List ℕ) → Put (rights_trailer roles e (2 * roles + edges)) (mid_of roles (length held - roles) held) q
           → Put (tail_of plain live rights roles edges) d (put_mid roles (length held - roles) held q)
       unfolding tail_of trailer_of rights_trailer

@@ -22,7 +22,8 @@ fn put_each<F: Fn(usize) -> u8>(live: u64, byte: F, out: &mut [u8])
 }
 
 // The records of one senior, by its row in either table; and how many bytes they are. A kind is 1 for I, 2 for A and 3 for
-// both: in a byte of a file a sum, since to choose a `Kind` by the two answers and then its number is longer.
+// both: in a byte of a file a sum, since to choose a `Kind` by the two answers and then its number is longer. (Tried by
+// `chunks_exact_mut` and `zip`: of what a loop writes through such chunks a proof learns no more than the length.)
 fn put_row(senior: usize, i: u64, a: u64, out: &mut [u8]) -> usize
     requires { (senior < 64) × (length (row_bytes senior i a) ≤ length out.old) }
     ensures { (result ≡ length (row_bytes senior i a)) × Put (row_bytes senior i a) out.old out.new }

@@ -1,13 +1,12 @@
-use Rattle.std.proofs.lemmas.Result.{err_from_is_err_and}
+use Rattle.std.specs.Prelude.{false}
+use Rattle.board.specs.Answers.{value_or}
 use Rattle.questions.proofs.Viewing.{derives_viewed}
-use Rattle.boardfile.proofs.Asking.{unopened, on_file}
+use Rattle.boardfile.proofs.Asking.{handed_on, on_file}
 use Rattle.boardfile.proofs.Readings.{sound, read_done}
 use Rattle.boardfile.proofs.ask.derives.Goals as goal
 
 pub returns-in_err-open : goal.returns-in_err-open
-returns-in_err-open c =
-    let p = err_from_is_err_and c.from_residual.result c.from_residual.ensures.1 in
-    rw (p.1, p.2) (unopened _ _ _ c.in_err-open.ensures)
+returns-in_err-open c = handed_on _ _ (value_or false) c.from_residual.ensures.1 c.in_err-open.ensures
 
 pub returns : goal.returns
 returns c = on_file (read_done c.in_ok-open.ensures) _ _ (derives_viewed (sound c.in_ok-open.ensures) _ _ c.derives_trusting.ensures)
