@@ -31,7 +31,8 @@ pub(crate) fn is_lost(held: &File) -> bool {
     is_nameless(held)
 }
 
-// The lock goes, and only then it is closed: while the file stands, whoever looks finds that somebody has it open.
+// The lock goes, and only then it is closed: while the file stands, whoever looks finds that somebody has it open. (The file and its name are
+// no struct: the name stands in `Names` before there is a lock, and after.)
 pub(crate) fn give_up(rt: HostRuntime, held: File, lock: &str) {
     if !is_lost(&held) {
         let _ = fs::remove_file(&rt, lock);

@@ -2,7 +2,7 @@
 // decided.
 //
 // Each command is given, in order, to the call that decides one and makes it; a refused one doesn't end the run. A command's answer, in one
-// number, goes into its place of the row. Where the row is shorter than the run no command is tried.
+// number as C is told it, goes into its place of the row. Where the row is shorter than the run no command is tried.
 #![tactic(auto)]
 
 ghost use Rattle.board.specs.Answers.{answer, number, value_or};
