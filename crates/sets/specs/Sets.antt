@@ -57,10 +57,10 @@ pub record Taken (s x t : ℕ) : Type 0 where
   pub lowest : LowestRole s x
   pub rest_is : (y : ℕ) → bit t y ≡ (bit s y && not (same? x y))
 
--- one turn of a loop over s: the lowest role is given and t is left, or s has no role
+-- one turn of a loop over s: the lowest role is given and t is left, or s has no role and stays
 abbrev pub Turn : ℕ → Option ℕ → ℕ → Type 0
 Turn s (Some r) t = Taken s r t
-Turn s None t = NoRole s
+Turn s None t = NoRole s × (t ≡ s)
 
 -- r is the highest role of s
 pub record HighestRole (s r : ℕ) : Type 0 where

@@ -23,4 +23,4 @@ loop-role-preserved c =
 pub returns : goal.returns
 returns c =
     let f = c.args.f.now in
-    held_end (rights_room (subst (GoodFrame _ _ _) c.requires f.framed) f.listed) c.loop-role.invariant (⊎_map (λ n. n.1) (λ z. z.1.0) c.in-None.ensures.steps)
+    held_end (rights_room (subst (GoodFrame _ _ _) c.requires f.framed) f.listed) c.loop-role.invariant (⊎_map (λ n. n.1.0) (λ z. z.1.0) c.in-None.ensures.steps)

@@ -10,4 +10,4 @@ pub loop-x-preserved : goal.loop-x-preserved
 loop-x-preserved c = (turning_turn c.in-Some.ensures.steps c.loop-x.invariant.0 c.mark.ensures, c.loop-x.invariant.1)
 
 pub returns-clause-turned : goal.returns-clause-turned
-returns-clause-turned c = rw (sym c.loop-x.invariant.1) (turning_end c.in-None.ensures.steps c.loop-x.invariant.0)
+returns-clause-turned c = rw (sym c.loop-x.invariant.1) (turning_end c.in-None.ensures.steps.0 c.loop-x.invariant.0)

@@ -11,4 +11,4 @@ pub loop-k-preserved : goal.loop-k-preserved
 loop-k-preserved g c = let s = c.in-Some.ensures.steps in each_put_turn c.requires.room c.loop-k.invariant s.0 _ _ _ s.1 c.byte.ensures s.2
 
 pub returns : goal.returns
-returns g c = each_put_end c.requires.room c.loop-k.invariant c.in-None.ensures.steps.0
+returns g c = each_put_end c.requires.room c.loop-k.invariant c.in-None.ensures.steps.0.0

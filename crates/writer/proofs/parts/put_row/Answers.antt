@@ -15,4 +15,4 @@ loop-junior-preserved c =
     row_put_turn c.requires.1 c.loop-junior.invariant c.in-Some.ensures.steps _ _ _ (omega arith) (kind_num _ _ _ _ c.from.ensures c.from-in-loop-junior.ensures ∙ ap₂ kind_of c.has.ensures c.has-in-loop-junior.ensures) c.copy_from_slice.ensures.after
 
 pub returns : goal.returns
-returns c = row_put_end c.requires.1 c.loop-junior.invariant c.in-None.ensures.steps
+returns c = row_put_end c.requires.1 c.loop-junior.invariant c.in-None.ensures.steps.0
