@@ -3,10 +3,10 @@
 #![tactic(auto)]
 
 ghost use Rattle.std.specs.Prelude.{◌≡◌};
-ghost use Rattle.board.specs.Answers.{answer as answer_to, offender, cause_number, cause_way};
+ghost use Rattle.board.specs.Answers.{Answer, cause_number, cause_way};
 ghost use Rattle.answers.specs.Packing.{answer, reason, answer_of};
 
-use board::answers::{Cause, Refusal};
+use board::answers::{Answer, Cause};
 
 // The three parts of an answer in one number, each a number as C has it.
 pub fn packed(number: u8, place: u8, value: u16) -> u64
@@ -35,29 +35,17 @@ pub fn blame(who: u8, cause: Cause) -> u64
     }
 }
 
-// The reason of a refusal: one over a scope has it, and for all others it is 0.
-fn reason_of(refusal: Refusal) -> u64
-    ensures { let named = offender refusal in result ≡ reason named.0 named.1 named.2 }
+// The answer to a command, by its result or by its four numbers, with the place and the value.
+pub fn answered_at<A: Into<Answer>>(a: A, place: u8, value: u16) -> u64
+    ensures { (told : Answer) × (A.converts a told × (result ≡ answer_of told place value)) }
 {
-    match refusal {
-        Refusal::OutOfScope { who, cause } => blame(who, cause),
-        _ => 0,
-    }
-}
-
-// The answer to a command, with the place and the value.
-pub fn answered_at(a: Result<(), Refusal>, place: u8, value: u16) -> u64
-    ensures { result ≡ answer_of (answer_to a) place value }
-{
-    match a {
-        Ok(()) => packed(0, place, value),
-        Err(refusal) => packed(refusal.number(), place, value) + reason_of(refusal),
-    }
+    let told = a.into();
+    packed(told.number, place, value) + reason(told.who, told.cause, told.way)
 }
 
 // The same where place and value are 0: of a command on a board that is lent or handed in.
-pub fn answered(a: Result<(), Refusal>) -> u64
-    ensures { result ≡ answer_of (answer_to a) 0 0 }
+pub fn answered<A: Into<Answer>>(a: A) -> u64
+    ensures { (told : Answer) × (A.converts a told × (result ≡ answer_of told 0 0)) }
 {
     answered_at(a, 0, 0)
 }

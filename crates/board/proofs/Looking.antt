@@ -34,6 +34,9 @@ fails f e x = false≢true (sym e ∙ f.1 x)
 pub never : {P : Type 0} → (P → ⊥) → (false ≡ true) ↔ P
 never n = (λ e. absurd (false≢true e), λ x. absurd (n x))
 
+pub denied : {P : Type 0} {p : Bool} → p ≡ false → (P → ⊥) → (p ≡ true) ↔ P
+denied z n = (λ e. absurd (false≢true (sym z ∙ e)), λ x. absurd (n x))
+
 pub always : {P : Type 0} → P → (true ≡ true) ↔ P
 always p = (λ e. p, λ q. refl)
 
@@ -100,3 +103,20 @@ kept_is {b} {k} sound fit worked same = (
   λ e. record { sound = sound; right = subst (λ (d : Kept). RightValues b.tables d.derives d.derivers d.manager) (sym (same.0 e)) worked; rightful = fit },
   λ s. same.1 (let q = values_unique (sound_loopless sound) s.right worked in λ n. kept_values (q.0 n) (q.1.0 n) (q.1.1 n)),
 )
+
+-- tables that are sound keep these values where they are those that were worked out
+pub keeps_is : {t : Tables} {k : Kept} {d u m : List ℕ} {r : Bool} → Sound t → RightValues t k.derives k.derivers k.manager
+    → (r ≡ true) ↔ ((d ≡ k.derives) × ((u ≡ k.derivers) × (m ≡ k.manager))) → (r ≡ true) ↔ (Sound t × RightValues t d u m)
+keeps_is {t} {k} {d} {u} {m} sound worked same = (
+  λ e.
+      let q = same.0 e in
+      let by_d : RightValues t d k.derivers k.manager = subst (λ (x : List ℕ). RightValues t x k.derivers k.manager) (sym q.0) worked in
+      let by_u : RightValues t d u k.manager = subst (λ (x : List ℕ). RightValues t d x k.manager) (sym q.1.0) by_d in
+      (sound, subst (λ (x : List ℕ). RightValues t d u x) (sym q.1.1) by_u),
+  λ s. same.1 (values_unique (sound_loopless sound) s.1 worked),
+)
+
+-- a board whose rights fit is sound where its tables are and keep what is theirs
+pub sound_is : {b : Board} {r : Bool} → RightsFit b.tables.live b.rights → (r ≡ true) ↔ (Sound b.tables × RightValues b.tables b.kept.derives b.kept.derivers b.kept.manager)
+    → (r ≡ true) ↔ SoundBoard b
+sound_is fit keeps = (λ e. let k = keeps.0 e in record { sound = k.0; right = k.1; rightful = fit }, λ s. keeps.1 (s.sound, s.right))

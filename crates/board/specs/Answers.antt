@@ -1,5 +1,6 @@
 -- What a command or a question answers: the number of its refusal, and whom refusal 6 names.
 use Rattle.std.specs.Prelude.{Result, Ok, Err, ℕ}
+use Rattle.board.specs.declared.answers.Answer as code
 use Rattle.board.specs.declared.answers.Cause.{Cause}
 use Rattle.board.specs.declared.answers.Cause.TheVariants.{NotDerived, InTheWay, Itself}
 use Rattle.board.specs.declared.answers.Refusal.{Refusal}
@@ -11,11 +12,8 @@ use Rattle.scopes.specs.declared.Bar.TheVariants as bar
 
 -- The number, 0 for done. With 6: the first role that offends, the cause, and with cause 2 the role in the way, which may be role 0, else 0.
 -- With any other number all three are 0.
-pub record Answer : Type 0 where
-  pub number : ℕ
-  pub who : ℕ
-  pub cause : ℕ
-  pub way : ℕ
+abbrev pub Answer : Type 0
+Answer = code.Answer
 
 -- a number alone, with nobody named
 abbrev pub plain : ℕ → Answer

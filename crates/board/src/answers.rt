@@ -1,6 +1,6 @@
 // Why a command or a question is refused: document 01's table, and what the requests after it added.
 ghost use Rattle.std.specs.Prelude.{◌≡◌};
-ghost use Rattle.board.specs.Answers.{number_of, faulted, barred};
+ghost use Rattle.board.specs.Answers.{plain, answer, number_of, cause_number, cause_way, faulted, barred};
 
 use hierarchy::working::Fault;
 use scopes::Bar;
@@ -12,6 +12,29 @@ pub enum Cause {
     NotDerived,
     InTheWay(u8),
     Itself,
+}
+
+impl Cause {
+    // The number that the rules and C know it by.
+    pub fn number(self) -> u8
+        ensures { result ≡ cause_number self }
+    {
+        match self {
+            Cause::NotDerived => 1,
+            Cause::InTheWay(_) => 2,
+            Cause::Itself => Answer::ITSELF,
+        }
+    }
+
+    // The role in the way, or 0: the cause tells which.
+    pub fn way(self) -> u8
+        ensures { result ≡ cause_way self }
+    {
+        match self {
+            Cause::InTheWay(role) => role,
+            _ => 0,
+        }
+    }
 }
 
 impl From<Bar> for Cause {
@@ -92,6 +115,50 @@ impl From<Fault> for Refusal {
         match fault {
             Fault::Loops => Refusal::Loops,
             Fault::Unmanaged => Refusal::Unmanaged,
+        }
+    }
+}
+
+// A result in numbers, as C is told it. The number, 0 for done. With 6: the first role that offends, the cause, and with cause 2 the role in
+// the way, which may be role 0, else 0. With any other number all three are 0.
+#[derive(Clone, Copy, PartialEq, Eq)]
+pub struct Answer {
+    pub number: u8,
+    pub who: u8,
+    pub cause: u8,
+    pub way: u8,
+}
+
+impl Answer {
+    // the third cause, where strict scope is asked: the role is the actor itself
+    pub const ITSELF: u8 = 3;
+
+    // A number that names nobody.
+    pub fn plain(number: u8) -> Self
+        ensures { result ≡ plain number }
+    {
+        Answer {
+            number,
+            who: 0,
+            cause: 0,
+            way: 0,
+        }
+    }
+}
+
+impl From<Result<(), Refusal>> for Answer {
+    ghost from_gives = { λ given told. told ≡ answer given };
+
+    fn from(given: Result<(), Refusal>) -> Answer {
+        match given {
+            Ok(()) => Answer::plain(0),
+            Err(Refusal::OutOfScope { who, cause }) => Answer {
+                number: 6,
+                who,
+                cause: cause.number(),
+                way: cause.way(),
+            },
+            Err(refusal) => Answer::plain(refusal.number()),
         }
     }
 }

@@ -14,7 +14,14 @@ use sets::has;
 pub fn derives(kept: &Kept, x: u32, y: u32) -> bool
     ensures { result ≡ bit (row kept.now.derives x) y }
 {
-    x < 64 && has(kept.derives[x as usize], y as usize)
+    derives_of(&kept.derives, x, y)
+}
+
+// The same of the sets that each role derives, where these are lent alone.
+pub fn derives_of(derives: &[u64; 64], x: u32, y: u32) -> bool
+    ensures { result ≡ bit (row derives.now x) y }
+{
+    x < 64 && has(derives[x as usize], y as usize)
 }
 
 // The scope of a, as a set.

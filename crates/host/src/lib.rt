@@ -12,6 +12,7 @@ ghost use Rattle.board.specs.Boards.{founding_board};
 ghost use Rattle.host.specs.Answers.{Applied, RunPacked, Checked, DerivesPacked, ScopePacked, ManagerPacked, StepsPacked, StretchPacked, Commanded, ReadPacked, WritePacked};
 
 use answers::{answered, answered_at};
+use board::answers::Answer;
 use board::{Board, Command};
 use boardfile::ask::{check, derives, line_manager, scope, steps};
 use boardfile::change::{Rejected, command};
@@ -20,8 +21,8 @@ use boardfile::stretches::bounds;
 use commands::decide;
 use runs::run;
 use values::{
-    ASKED, FILE, WRITING, bar_reason, done, manager_value, refused, refused_with, scope_value,
-    unwritten,
+    ASKED, FILE, WRITING, bar_reason, done, manager_value, refused, refused_at, refused_with,
+    scope_value, unwritten,
 };
 use writer::write;
 
@@ -81,10 +82,10 @@ pub extern "C" fn board_command(file: &[u8], c: &Command, out: &mut [u8]) -> u64
     ensures { Commanded file.now c.now out.old out.new result }
 {
     match command(file, *c, out) {
-        Ok(len) => answered_at(Ok(()), ASKED, len as u16),
-        Err(Rejected::File(refusal)) => answered_at(Err(refusal), FILE, 0),
-        Err(Rejected::Asked(refusal)) => answered_at(Err(refusal), ASKED, 0),
-        Err(Rejected::Writing(refusal)) => answered_at(Err(refusal), WRITING, 0),
+        Ok(len) => answered_at(Answer::plain(0), ASKED, len as u16),
+        Err(Rejected::File(refusal)) => refused_at(refusal, FILE),
+        Err(Rejected::Asked(refusal)) => refused_at(refusal, ASKED),
+        Err(Rejected::Writing(refusal)) => refused_at(refusal, WRITING),
     }
 }
 

@@ -8,9 +8,8 @@ ghost use Rattle.jobs.specs.Lists.{jobs_of};
 ghost use Rattle.host.specs.Jobs.{StartPacked, ClaimPacked, ReleasePacked, JobPacked};
 
 use answers::packed;
-use board::Board;
 use board::answers::Refusal;
-use jobs::{claim, look, release, start};
+use jobs::{claim_of, look, release_of, start};
 
 // The answer of a change to a list: the number alone.
 fn settled(q: Result<(), Refusal>) -> u64
@@ -35,30 +34,6 @@ pub extern "C" fn jobs_start_rows(
     settled(start(listed, roles, marks, members))
 }
 
-// The fields that C gives, over a board. A board by value would stand on the stack twice, and a claim would take 4,568 bytes, where it may
-// have 4,096. Inlined, the copies ask the C library for `memcpy` alone.
-#[inline(always)]
-fn put_parts(
-    b: &mut Board,
-    live: u64,
-    i: &[u64; 64],
-    a: &[u64; 64],
-    derives: &[u64; 64],
-    derivers: &[u64; 64],
-    manager: &[u8; 64],
-    rights: &[u8; 64],
-)
-    ensures { b.new ≡ board_of live i.now a.now derives.now derivers.now manager.now rights.now }
-{
-    b.tables.live = live;
-    b.tables.i.copy_from_slice(i);
-    b.tables.a.copy_from_slice(a);
-    b.kept.derives.copy_from_slice(derives);
-    b.kept.derivers.copy_from_slice(derivers);
-    b.kept.manager.copy_from_slice(manager);
-    b.rights.copy_from_slice(rights);
-}
-
 // The member takes the job.
 #[unsafe(no_mangle)]
 pub extern "C" fn jobs_claim_rows<'t>(
@@ -78,9 +53,9 @@ pub extern "C" fn jobs_claim_rows<'t>(
 ) -> u64
     ensures { ClaimPacked (board_of live i.now a.now derives.now derivers.now manager.now rights.now) (jobs_of roles.now marks.old members.old) job member role (jobs_of roles.now marks.new members.new) result }
 {
-    let mut b = Board::founding();
-    put_parts(&mut b, live, i, a, derives, derivers, manager, rights);
-    settled(claim(&b, roles, marks, members, job, member, role))
+    settled(claim_of(
+        live, i, a, derives, derivers, manager, rights, roles, marks, members, job, member, role,
+    ))
 }
 
 // The job is open again.
@@ -102,9 +77,9 @@ pub extern "C" fn jobs_release_rows<'t>(
 ) -> u64
     ensures { ReleasePacked (board_of live i.now a.now derives.now derivers.now manager.now rights.now) (jobs_of roles.now marks.old members.old) job member role (jobs_of roles.now marks.new members.new) result }
 {
-    let mut b = Board::founding();
-    put_parts(&mut b, live, i, a, derives, derivers, manager, rights);
-    settled(release(&b, roles, marks, members, job, member, role))
+    settled(release_of(
+        live, i, a, derives, derivers, manager, rights, roles, marks, members, job, member, role,
+    ))
 }
 
 // Whether a job is held, and by whom; beside a refusal it isn't.

@@ -1,12 +1,12 @@
 // The parts of an answer as numbers: where it arose, its value, and why a role is not in a scope.
-ghost use Rattle.std.specs.Prelude.{◌≡◌, is_none, ◌+◌, ◌*◌, ◌≤◌};
+ghost use Rattle.std.specs.Prelude.{◌≡◌, is_none, Err, ◌+◌, ◌*◌, ◌≤◌};
 ghost use Rattle.sets.specs.Sets.{num};
 ghost use Rattle.scopes.specs.Bars.{bar_cause, bar_way};
-ghost use Rattle.board.specs.Answers.{number_of};
-ghost use Rattle.answers.specs.Packing.{answer, reason};
+ghost use Rattle.board.specs.Answers.{number_of, answer as answer_to};
+ghost use Rattle.answers.specs.Packing.{answer, reason, answer_of};
 ghost use Rattle.host.specs.Answers.{place_of, place_of_writing, manager_or64};
 
-use answers::{blame, packed};
+use answers::{answered_at, blame, packed};
 use board::answers::{Cause, Refusal};
 use questions::Scoped;
 use scopes::Bar;
@@ -27,6 +27,14 @@ pub(crate) fn done(value: u16) -> u64
     ensures { result ≡ answer 0 0 value }
 {
     packed(0, ASKED, value)
+}
+
+// A command that is refused, with whom a 6 names.
+pub(crate) fn refused_at(refusal: Refusal, place: u8) -> u64
+    ensures { result ≡ answer_of (answer_to {A = Unit {0}} (Err refusal)) place 0 }
+{
+    let told: Result<(), Refusal> = Err(refusal);
+    answered_at(told, place, 0)
 }
 
 // A question about a file that is refused, with the value that says none.

@@ -11,12 +11,13 @@
 
 ghost use Rattle.std.specs.Prelude.{Option};
 ghost use Rattle.board.specs.Answers.{number, value_or};
+ghost use Rattle.board.specs.Boards.{board_of};
 ghost use Rattle.jobs.specs.Lists.{jobs_of};
 ghost use Rattle.jobs.specs.Answers.{StartAnswer, ClaimAnswer, ReleaseAnswer, LookAnswer};
 
 use board::Board;
 use board::answers::Refusal;
-use questions::{derives, scope};
+use questions::{derives_of, scope_of};
 use rows::{all_roles, clear, copy, free, holder, is_listed, role_of, take};
 
 mod rows;
@@ -39,19 +40,26 @@ pub fn start(
     Ok(())
 }
 
-// The member takes the job, acting in a role that derives the job's.
-pub fn claim(
-    b: &Board,
-    roles: &[u8; 1024],
+// The member takes the job, acting in a role that derives the job's. The board is lent part by part, as C gives it.
+pub fn claim_of<'t>(
+    live: u64,
+    i: &'t [u64; 64],
+    a: &'t [u64; 64],
+    derives: &'t [u64; 64],
+    derivers: &'t [u64; 64],
+    manager: &'t [u8; 64],
+    rights: &'t [u8; 64],
+    roles: &'t [u8; 1024],
     marks: &mut [u8; 1024],
     members: &mut [u32; 1024],
     job: u32,
     member: u32,
     role: u32,
 ) -> Result<(), Refusal>
-    ensures { ClaimAnswer b.now (jobs_of roles.now marks.old members.old) job member role (number result) (jobs_of roles.now marks.new members.new) }
+    ensures { ClaimAnswer (board_of live i.now a.now derives.now derivers.now manager.now rights.now) (jobs_of roles.now marks.old members.old) job member role (number result) (jobs_of roles.now marks.new members.new) }
 {
-    let derived = derives(b, role, role_of(roles, job))?;
+    let listed = role_of(roles, job);
+    let derived = derives_of(live, i, a, derives, derivers, manager, rights, role, listed)?;
     let job = job as usize;
     if holder(marks, members, job).is_some() {
         return Err(Refusal::WrongState);
@@ -63,7 +71,69 @@ pub fn claim(
     Ok(())
 }
 
-// The job is open again: its holder gives it up, or whoever acts in a role that has the job's in its scope takes it away.
+// The same on a board that is lent whole.
+pub fn claim(
+    b: &Board,
+    roles: &[u8; 1024],
+    marks: &mut [u8; 1024],
+    members: &mut [u32; 1024],
+    job: u32,
+    member: u32,
+    role: u32,
+) -> Result<(), Refusal>
+    ensures { ClaimAnswer b.now (jobs_of roles.now marks.old members.old) job member role (number result) (jobs_of roles.now marks.new members.new) }
+{
+    claim_of(
+        b.tables.live,
+        &b.tables.i,
+        &b.tables.a,
+        &b.kept.derives,
+        &b.kept.derivers,
+        &b.kept.manager,
+        &b.rights,
+        roles,
+        marks,
+        members,
+        job,
+        member,
+        role,
+    )
+}
+
+// The job is open again: its holder gives it up, or whoever acts in a role that has the job's in its scope takes it away. The board is lent
+// part by part.
+pub fn release_of<'t>(
+    live: u64,
+    i: &'t [u64; 64],
+    a: &'t [u64; 64],
+    derives: &'t [u64; 64],
+    derivers: &'t [u64; 64],
+    manager: &'t [u8; 64],
+    rights: &'t [u8; 64],
+    roles: &'t [u8; 1024],
+    marks: &mut [u8; 1024],
+    members: &mut [u32; 1024],
+    job: u32,
+    member: u32,
+    role: u32,
+) -> Result<(), Refusal>
+    ensures { ReleaseAnswer (board_of live i.now a.now derives.now derivers.now manager.now rights.now) (jobs_of roles.now marks.old members.old) job member role (number result) (jobs_of roles.now marks.new members.new) }
+{
+    let listed = role_of(roles, job);
+    let scoped = scope_of(live, i, a, derives, derivers, manager, rights, role, listed)?;
+    let job = job as usize;
+    let Some(held_by) = holder(marks, members, job) else {
+        return Err(Refusal::WrongState);
+    };
+    let by_holder = held_by == member;
+    if !by_holder && scoped.bar.is_some() {
+        return Err(Refusal::NotTheirs);
+    }
+    free(marks, members, job);
+    Ok(())
+}
+
+// The same on a board that is lent whole.
 pub fn release(
     b: &Board,
     roles: &[u8; 1024],
@@ -75,17 +145,21 @@ pub fn release(
 ) -> Result<(), Refusal>
     ensures { ReleaseAnswer b.now (jobs_of roles.now marks.old members.old) job member role (number result) (jobs_of roles.now marks.new members.new) }
 {
-    let scoped = scope(b, role, role_of(roles, job))?;
-    let job = job as usize;
-    let Some(held_by) = holder(marks, members, job) else {
-        return Err(Refusal::WrongState);
-    };
-    let by_holder = held_by == member;
-    if !by_holder && scoped.bar.is_some() {
-        return Err(Refusal::NotTheirs);
-    }
-    free(marks, members, job);
-    Ok(())
+    release_of(
+        b.tables.live,
+        &b.tables.i,
+        &b.tables.a,
+        &b.kept.derives,
+        &b.kept.derivers,
+        &b.kept.manager,
+        &b.rights,
+        roles,
+        marks,
+        members,
+        job,
+        member,
+        role,
+    )
 }
 
 // Who holds a job: nobody, where it is open. Past the list it is refused as malformed.

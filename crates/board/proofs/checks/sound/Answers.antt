@@ -1,19 +1,11 @@
-use mathlib.Core.Path.{◌≡◌, sym, ◌∙◌}
-use mathlib.Core.Bool.{true}
-use mathlib.Core.Logic.{◌↔◌}
-use borrow.Author.Rules.{rules}
-use Rattle.board.proofs.Looking.{holds, never, found_none, found_one, worked_sound, worked_unsound, worked_right, kept_is}
+use Rattle.board.proofs.Looking.{holds, fails, denied, sound_is}
 use Rattle.board.proofs.checks.sound.Goals as goal
 
-pub returns-then-is_err : goal.returns-then-is_err
-returns-then-is_err c = never (λ s. worked_unsound c.work_out.ensures (found_one _ (sym c.is_err.ensures.value ∙ c.if-is_err.true)) s.sound)
+pub keeps_right-requires : goal.keeps_right-requires
+keeps_right-requires c = (holds c.starts_right.ensures c.if-starts_right.true).1
 
-pub returns : goal.returns
-returns c =
-    let w = c.work_out.ensures in
-    let z = found_none _ (sym c.is_err.ensures.value ∙ c.if-is_err.false) in
-    let same : (c.eq.result ≡ true) ↔ (c.args.b.now.kept ≡ c.work_out.new.kept) = search rules in
-    kept_is
-    (worked_sound w c.shaped.ensures (sym c.has.ensures ∙ c.if-not-has.false) (holds c.joined.ensures c.if-not-joined.false) z)
-    (holds c.rightful.ensures c.if-not-rightful.false)
-    (worked_right w z) same
+pub returns-then-starts_right : goal.returns-then-starts_right
+returns-then-starts_right c = sound_is (holds c.starts_right.ensures c.if-starts_right.true).0 c.keeps_right.ensures
+
+pub returns-else-starts_right : goal.returns-else-starts_right
+returns-else-starts_right c = denied c.if-starts_right.false (λ s. fails c.starts_right.ensures c.if-starts_right.false (s.rightful, (s.sound.root, s.sound.joined)))

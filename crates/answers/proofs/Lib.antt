@@ -1,0 +1,2 @@
+-- What becomes of a result that is packed.
+pub mod Told
