@@ -1,10 +1,12 @@
 // The seven commands: one call decides a change and makes it. Knows the board, the effects and the rows on the board handed in; has the rows
 // afterwards, and all of them in the order of document 01.
 //
-// `decide` works on a board that is lent, `step` on one by value. `decide_trusting` is for a caller that has just found the board sound.
+// `decide` works on a board that is lent, `step` on one by value, `lent::apply` by `step` on one that is lent. `decide_trusting` is for a
+// caller that has just found the board sound.
 #![tactic(auto)]
 
 mod afterwards;
+pub mod lent;
 mod rights;
 
 ghost use Rattle.board.specs.Answers.{answer};

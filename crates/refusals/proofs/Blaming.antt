@@ -19,14 +19,12 @@ use Rattle.board.specs.Answers.{Answer, plain, cause_number, cause_way, barred a
 use Rattle.board.specs.declared.Command.{Command}
 use Rattle.hierarchy.specs.Views.{ScopeBy, OutOfScopeBy, BarBy}
 use Rattle.hierarchy.specs.Views.{OutOfScopeBy.not_derived, OutOfScopeBy.in_the_way}
-use Rattle.hierarchy.specs.First.{First}
-use Rattle.hierarchy.proofs.FirstLaws.{hit}
 use Rattle.scopes.specs.Bars.{bar_cause, bar_way}
 use Rattle.scopes.specs.declared.Bar.{Bar}
 use Rattle.scopes.specs.declared.Bar.TheVariants.{NotDerived, InTheWay}
 use Rattle.refusals.specs.Trusting.{BlamesBy}
 use Rattle.refusals.specs.declared.offending.Offender.{Offender}
-use Rattle.refusals.specs.Refusals.{LowestOut, names_edge, scoped, strictly, InScope, conditions, AsAsked, Breaks, Offends, Because, Blames, Names, by_scope}
+use Rattle.refusals.specs.Refusals.{LowestOut, names_edge, scoped, strictly, InScope, conditions, AsAsked, Breaks, Offends, Because, Blames, Names}
 use Rattle.refusals.specs.Refusals.{Offends.here, Offends.later, Because.out, Because.itself}
 
 abbrev pub Conditions : Type 0
@@ -355,32 +353,30 @@ pub offender_out : (In : ℕ → ℕ → Type 0) (a : ℕ) {ps : Conditions} {x 
 offender_out In a (here h l) n m = h.wrong (m, n)
 offender_out In a (later k h) n m = offender_out In a h n m
 
+module _ {In : ℕ → ℕ → Type 0} {Out : ℕ → ℕ → ℕ → ℕ → Type 0} (c : Command) {x : ℕ} {s : Bool} (h : Offends In c.actor (conditions c) x s) where
+  pub blames_itself : s ≡ true → c.actor ≡ x → Blames In Out c (record { number = 6; who = x; cause = 3; way = 0 })
+  blames_itself t e = record { strict = true; offends = subst (Offends In c.actor (conditions c) x) t h; because = itself e }
+
+  pub blames_out : {k w : ℕ} → (s ≡ true → c.actor ≢ x) → (In c.actor x × ((k ≡ 0) × (w ≡ 0))) ⊎ Out c.actor x k w → Blames In Out c (record { number = 6; who = x; cause = k; way = w })
+  blames_out n o = record { strict = s; offends = h; because = out n (⊎_elim (λ q. absurd (offender_out In c.actor h n q.0)) (λ q. q) o) }
+
+-- who offends is found where the scope condition fails,
+pub offender_some : {A P : Type 0} (Q : A → Type 0) (r : Option A) → (P → ⊥) → MatchOption r P Q → IsSome r
+offender_some Q (Some v) n h = refl
+offender_some Q None n h = absurd (n h)
+
 out_cause : {down up : List ℕ} {a x k w : ℕ} → OutOfScopeBy down up a x k w → k ≢ 0
 out_cause (not_derived n) e = absurd (omega (arith, e))
 out_cause (in_the_way d e w) q = absurd (omega (arith, q))
 
-module _ (down up : List ℕ) (all : ℕ) (c : Command) (scope : (x : ℕ) → (x is_in all) ↔ ScopeBy down up c.actor x) {x : ℕ} {s : Bool} (h : Offends (InSet all) c.actor (conditions c) x s) where
-  offender : Offends (ScopeBy down up) c.actor (conditions c) x s
-  offender = offends_alike (InSet all) (ScopeBy down up) c.actor scope h
+-- and is barred, off the sets that a board keeps, but for the actor itself
+module _ (down up : List ℕ) (c : Command) {x : ℕ} {s : Bool} (h : Offends (ScopeBy down up) c.actor (conditions c) x s) (n : s ≡ true → c.actor ≢ x) where
+  -- the cause is that of the bar
+  pub blames_barred : (bar : Bar) → BarBy down up c.actor x (bar_cause (Some bar)) (bar_way (Some bar))
+      → BlamesBy down up c (record { number = 6; who = x; cause = cause_number (cause_of bar); way = cause_way (cause_of bar) })
+  blames_barred NotDerived b = blames_out c h n b
+  blames_barred (InTheWay y) b = blames_out c h n b
 
-  abbrev SaysSix : ℕ → ℕ → Type 0
-  SaysSix k w = First (by_scope (ScopeBy down up) c) 6 × Names (BlamesBy down up c) (record { number = 6; who = x; cause = k; way = w })
-
-  six : {k w : ℕ} → Because (OutOfScopeBy down up) c.actor x s k w → SaysSix k w
-  six b = (hit _ _ _ (offends_out c offender), names_six refl (record { strict = s; offends = offender; because = b }))
-
-  pub six_itself : s ≡ true → x ≡ c.actor → SaysSix 3 0
-  six_itself t e = six (subst (λ (k : Bool). Because (OutOfScopeBy down up) c.actor x k 3 0) (sym t) (itself (sym e)))
-
-  module _ (n : s ≡ true → c.actor ≢ x) where
-    out_of_scope : {k w : ℕ} → BarBy down up c.actor x k w → OutOfScopeBy down up c.actor x k w
-    out_of_scope b = ⊎_elim (λ q. absurd (offender_out (ScopeBy down up) c.actor offender n q.0)) (λ q. q) b
-
-    -- the cause is that of the bar
-    pub six_barred : (bar : Bar) → BarBy down up c.actor x (bar_cause (Some bar)) (bar_way (Some bar)) → SaysSix (cause_number (cause_of bar)) (cause_way (cause_of bar))
-    six_barred NotDerived b = six (out n (out_of_scope b))
-    six_barred (InTheWay y) b = six (out n (out_of_scope b))
-
-    pub barred : (r : Option Bar) → BarBy down up c.actor x (bar_cause r) (bar_way r) → IsSome r
-    barred (Some bar) b = refl
-    barred None b = absurd (out_cause (out_of_scope b) refl)
+  pub barred : (r : Option Bar) → BarBy down up c.actor x (bar_cause r) (bar_way r) → IsSome r
+  barred (Some bar) b = refl
+  barred None b = ⊎_elim (λ q. absurd (offender_out (ScopeBy down up) c.actor h n q.0)) (λ q. absurd (out_cause q refl)) b

@@ -4,11 +4,14 @@ use mathlib.Core.Logic.{◌≢◌}
 use mathlib.Core.List.{List, ◌++◌}
 use Prim.Native.Nat.{ℕ}
 use native.Mathlib.Omega.{arith}
+use Rattle.std.specs.Prelude.{Err}
 use Rattle.hierarchy.specs.Tables.{Tables}
 use Rattle.hierarchy.specs.First.{First}
 use Rattle.hierarchy.proofs.FirstLaws.{hit, pass}
-use Rattle.board.specs.Answers.{Answer, plain}
+use Rattle.board.specs.Answers.{Answer, plain, number_of, answer}
+use Rattle.board.specs.declared.answers.Refusal.{Refusal}
 use Rattle.board.specs.declared.Command.{Command}
+use Rattle.board.proofs.Answering.{number_of_some, names_nobody}
 use Rattle.board.proofs.Rules.{first_other, first_refused, first_next, first_done}
 use Rattle.refusals.specs.Refusals.{Names, unscoped, by_rights, by_scope, before}
 use Rattle.refusals.specs.Entitled.{Entitled}
@@ -26,6 +29,9 @@ module _ (Derive In : ℕ → ℕ → Type 0) (Blame : Answer → Type 0) (t : T
 
   pub down_early : (n : ℕ) → n ≢ 0 → First early n → {m : Answer} → m ≡ plain n → Down m
   down_early n h f = plainly n (first_other 6 early refl n f) (first_refused early _ n h f)
+
+  pub down_refused : (r : Refusal) → First early (number_of r) → Down (answer {A = Unit {0}} (Err r))
+  down_refused r f = down_early (number_of r) (number_of_some r) f (names_nobody r (first_other 6 early refl (number_of r) f))
 
   module _ (k : ℕ) (short : k ≡ 0) (fine : First early k) where
     past_early : (n : ℕ) → First (by_rights Derive rights c ++ by_scope In c) n → First (before Derive In t rights c) n

@@ -1,16 +1,15 @@
 -- The rows of the table of refusals on the board handed in, each from what the code tests. Assumes nothing.
-use mathlib.Core.Path.{◌≡◌, sym, ap, ◌∙◌, subst}
+use mathlib.Core.Path.{◌≡◌, refl, sym, ap, ◌∙◌, subst}
 use mathlib.Core.Bool.{Bool, true, false, not, ◌&&◌, ◌||◌, or-false, or_comm}
 use mathlib.Core.Logic.Iff
 use mathlib.Core.Logic.{◌⊎◌, inl, inr, ⊎_elim, ◌≢◌, ◌↔◌}
-use mathlib.Core.List.{◌++◌}
 use Prim.Native.Nat.{ℕ, ◌^◌, ◌≤◌, ◌<◌}
 use native.Mathlib.Decide.{ℕ_discrete}
 use native.Mathlib.Omega.{arith}
 use lib.Count.{count_trailing_zeros}
 use lib.Dec.{eqb}
 use borrow.Author.Tests.{eqb-true, eqb-false, ne_eqb, leb-true, le-leb, lt-leb, not-true}
-use Rattle.sets.specs.Sets.{bit, ◌is_in◌, same?}
+use Rattle.sets.specs.Sets.{bit, ◌is_in◌, ◌are_in◌, same?}
 use Rattle.sets.proofs.Bools.{true_or_false, or_cases, or_left, or_right, and_left, and_right, and_both, false_no, lt_or_ge}
 use Rattle.sets.proofs.Digits.{bit_zero}
 use Rattle.sets.proofs.Laws.{same_is, bit_lowest}
@@ -21,18 +20,13 @@ use Rattle.hierarchy.proofs.Derive.{edge_entry}
 use Rattle.hierarchy.proofs.FirstLaws.{hit, pass, none}
 use Rattle.board.specs.Answers.{Answer, plain}
 use Rattle.board.specs.Codes.{code_number}
-use Rattle.board.specs.Boards.{tables_of}
-use Rattle.board.specs.declared.Board.{Board}
 use Rattle.board.specs.declared.Command.{Command}
 use Rattle.board.specs.declared.Code.{Code}
 use Rattle.board.specs.declared.Code.TheVariants.{AddEdge, RemoveEdge, ChangeEdge}
 use Rattle.board.proofs.Rules.{stable}
-use Rattle.refusals.specs.Refusals.{Malformed, as_senior, as_junior, needed, Missing, edge_kind, PartsStand, Standing, Lacking, scoped, strictly, InScope, Names, by_rights, by_scope}
+use Rattle.refusals.specs.Refusals.{Malformed, as_senior, as_junior, needed, Missing, edge_kind, PartsStand, Standing, Lacking, scoped, strictly, InScope, Names, unscoped, by_scope}
 use Rattle.refusals.specs.Refusals.{Malformed.no_code, Malformed.no_actor, Malformed.no_role, Malformed.no_junior, Malformed.no_kind, Malformed.no_rights, Standing.role, Standing.edge, Lacking.no_part, Lacking.no_edge}
-use Rattle.refusals.specs.Entitled.{Entitled}
-use Rattle.refusals.specs.Trusting.{DerivesBy, BlamesBy, before_trusting}
-use Rattle.hierarchy.specs.Views.{ScopeBy}
-use Rattle.refusals.proofs.Blaming.{OnEdge, edge_is, names_plain}
+use Rattle.refusals.proofs.Blaming.{OnEdge, edge_is, names_plain, names_six, strict_asked}
 
 -- ---- row 2
 
@@ -164,6 +158,15 @@ missing_is c n d live h hn hd = Iff.trans (some_member d h) (
   λ w. (w.0, hd w.0 ∙ and_both (bit n w.0) (not (bit live w.0)) (hn w.0 ∙ w.1) (ap not w.2)),
 )
 
+-- the scope condition, by the sets of those asked for
+pub within_is : (scope : ℕ) (c : Command) (u s w : ℕ) → (Malformed c → ⊥) → ((x : ℕ) → bit u x ≡ scoped c x) → ((x : ℕ) → bit s x ≡ strictly c x)
+    → ((x : ℕ) → bit w x ≡ (bit scope x && not (same? c.actor x))) → u are_in scope → (s are_in w) ↔ InScope (λ a x. x is_in scope) c
+within_is scope c u s w formed hu hs hw p =
+    let asked = strict_asked scope c.actor w (actor_lt c formed) hw in (
+      λ q. record { scope = λ x e. p x (hu x ∙ e); strict = λ x e. let m = (asked x).0 (q x (hs x ∙ e)) in (m.0, m.1 refl) },
+      λ r x e. let m = r.strict x (sym (hs x) ∙ e) in (asked x).1 (m.0, λ _. m.1),
+    )
+
 -- the scope condition by two relations that agree on the actor
 pub in_scope_alike : {In In' : ℕ → ℕ → Type 0} (c : Command) → ((x : ℕ) → In c.actor x ↔ In' c.actor x) → InScope In c ↔ InScope In' c
 in_scope_alike c h = (
@@ -210,46 +213,31 @@ module _ (b : Tables) (c : Command) where
         rows (no_part e n) = inl (e, n)
         rows (no_edge e z) = inr (e, λ k. k z)
 
--- ---- the rows on the board handed in, one after the other
+-- ---- the rows on the board handed in
 
--- row 6 where nobody offends
+module _ (b : Tables) (c : Command) where
+  pub refused_2 : Malformed c → First (unscoped b c) 2
+  refused_2 m = hit _ _ _ m
+
+  module _ (formed : Malformed c → ⊥) where
+    pub refused_3 : Missing b c → First (unscoped b c) 3
+    refused_3 m = pass _ _ _ _ formed (hit _ _ _ m)
+
+    module _ (present : Missing b c → ⊥) where
+      pub refused_4 : Standing b c → First (unscoped b c) 4
+      refused_4 s = pass _ _ _ _ formed (pass _ _ _ _ present (hit _ _ _ s))
+
+      module _ (free : Standing b c → ⊥) where
+        pub refused_5 : Lacking b c → First (unscoped b c) 5
+        refused_5 n = pass _ _ _ _ formed (pass _ _ _ _ present (pass _ _ _ _ free (hit _ _ _ n)))
+
+        pub refused_not : (Lacking b c → ⊥) → First (unscoped b c) 0
+        refused_not there = pass _ _ _ _ formed (pass _ _ _ _ present (pass _ _ _ _ free (pass _ _ _ _ there none)))
+
+-- row 6 where nobody offends,
 pub scope_holds : {In : ℕ → ℕ → Type 0} {Blame : Answer → Type 0} {c : Command} → InScope In c → First (by_scope In c) 0 × Names Blame (plain 0)
 scope_holds s = (pass _ _ _ _ (λ k. k s) none, names_plain 0 (λ q. omega arith))
 
--- what is answered of the command c, by what is known of d, which is c with its numbers in range
-module _ (b : Board) {c d : Command} (e : d ≡ c) where
-  abbrev Down : Command → Answer → Type 0
-  Down k m = First (before_trusting b k) m.number × Names (BlamesBy b.kept.derives b.kept.derivers k) m
-
-  abbrev t : Tables
-  t = tables_of b
-
-  answers : (n : ℕ) → n ≢ 6 → First (before_trusting b d) n → Down c (plain n)
-  answers n six f = subst (λ (k : Command). Down k (plain n)) e (f, names_plain n six)
-
-  module _ (formed : Malformed d → ⊥) where
-    pub row_3 : Missing t d → Down c (plain 3)
-    row_3 m = answers 3 (λ q. omega arith) (pass _ _ _ _ formed (hit _ _ _ m))
-
-    module _ (present : Missing t d → ⊥) where
-      pub row_4 : Standing t d → Down c (plain 4)
-      row_4 s = answers 4 (λ q. omega arith) (pass _ _ _ _ formed (pass _ _ _ _ present (hit _ _ _ s)))
-
-      module _ (free : Standing t d → ⊥) where
-        pub row_5 : Lacking t d → Down c (plain 5)
-        row_5 n = answers 5 (λ q. omega arith) (pass _ _ _ _ formed (pass _ _ _ _ present (pass _ _ _ _ free (hit _ _ _ n))))
-
-        module _ (there : Lacking t d → ⊥) where
-          past_5 : (n : ℕ) → First (by_rights (DerivesBy b.kept.derives) b.rights d ++ by_scope (ScopeBy b.kept.derives b.kept.derivers) d) n → First (before_trusting b d) n
-          past_5 n f = pass _ _ _ _ formed (pass _ _ _ _ present (pass _ _ _ _ free (pass _ _ _ _ there f)))
-
-          pub row_13 : (Entitled (DerivesBy b.kept.derives) b.rights d → ⊥) → Down c (plain 13)
-          row_13 n = answers 13 (λ q. omega arith) (past_5 13 (hit _ _ _ n))
-
-          pub row_6 : Entitled (DerivesBy b.kept.derives) b.rights d → {m : Answer}
-              → First (by_scope (ScopeBy b.kept.derives b.kept.derivers) d) m.number × Names (BlamesBy b.kept.derives b.kept.derivers d) m → Down c m
-          row_6 right {m} f = subst (λ (k : Command). Down k m) e (past_5 m.number (pass _ _ _ _ (λ k. k right) f.0), f.1)
-
--- row 2
-pub row_2 : (b : Board) (c : Command) → Malformed c → First (before_trusting b c) 2 × Names (BlamesBy b.kept.derives b.kept.derivers c) (plain 2)
-row_2 b c m = (hit _ _ _ m, names_plain 2 (λ q. omega arith))
+-- and where somebody does, with whom it names
+pub scope_fails : {In : ℕ → ℕ → Type 0} {Blame : Answer → Type 0} {c : Command} {m : Answer} → (InScope In c → ⊥) → (m.number ≡ 6) × Blame m → First (by_scope In c) m.number × Names Blame m
+scope_fails {In} {c = c} n q = (subst (First (by_scope In c)) (sym q.0) (hit _ _ _ n), names_six q.0 q.1)

@@ -6,10 +6,10 @@ mod formed;
 mod offending;
 mod rights;
 
-ghost use Rattle.std.specs.Prelude.{◌≡◌, true, ◌↔◌, ◌≢◌};
+ghost use Rattle.std.specs.Prelude.{◌≡◌, true, ◌↔◌, ◌≢◌, IfOk};
 ghost use Rattle.hierarchy.specs.First.{First};
-ghost use Rattle.board.specs.Answers.{answer};
-ghost use Rattle.refusals.specs.Refusals.{Missing, edge_kind, PartsStand, Standing, Lacking, Names};
+ghost use Rattle.board.specs.Answers.{number, answer};
+ghost use Rattle.refusals.specs.Refusals.{Missing, edge_kind, PartsStand, Standing, Lacking, Names, unscoped};
 ghost use Rattle.refusals.specs.Trusting.{BlamesBy, before_trusting};
 
 use board::answers::Refusal;
@@ -69,22 +69,30 @@ fn lacking(t: &Tables, f: &Formed) -> bool
     }
 }
 
-// The refusals on the board handed in, past the first, with whom a 6 names; its own sets say what deriving and scope are.
-pub fn refused_on_board(b: &Board, c: Command) -> Result<(), Refusal>
-    ensures { First (before_trusting b.now c) (answer result).number × Names (BlamesBy b.now.kept.derives b.now.kept.derivers c) (answer result) }
+// The refusals on the board handed in, past the first and short of scope; else the command, with its numbers in range.
+fn refused_2_to_5(t: &Tables, c: Command) -> Result<Formed, Refusal>
+    ensures { First (unscoped t.now c) (number result) × IfOk result (λ f. f.command ≡ c) }
 {
     let Some(f) = Formed::of(c) else {
         return Err(Refusal::Malformed);
     };
-    if missing(&b.tables, &f) {
+    if missing(t, &f) {
         return Err(Refusal::Missing);
     }
-    if standing(&b.tables, &f) {
+    if standing(t, &f) {
         return Err(Refusal::Standing);
     }
-    if lacking(&b.tables, &f) {
+    if lacking(t, &f) {
         return Err(Refusal::Lacking);
     }
+    Ok(f)
+}
+
+// The refusals on the board handed in, past the first, with whom a 6 names; its own sets say what deriving and scope are.
+pub fn refused_on_board(b: &Board, c: Command) -> Result<(), Refusal>
+    ensures { First (before_trusting b.now c) (answer result).number × Names (BlamesBy b.now.kept.derives b.now.kept.derivers c) (answer result) }
+{
+    let f = refused_2_to_5(&b.tables, c)?;
     if !entitled(b, &f) {
         return Err(Refusal::NotEntitled);
     }

@@ -1,9 +1,9 @@
-// Whom a 6 names: who is not in the scope that is asked of it, and why.
-ghost use Rattle.std.specs.Prelude.{◌≡◌, MatchOption, ◌<◌};
+// 6: whether all are in the scope that is asked of them; where not, whom it names, and why.
+ghost use Rattle.std.specs.Prelude.{◌≡◌, true, ◌↔◌, MatchOption, Err, ℕ, ◌<◌};
 ghost use Rattle.hierarchy.specs.First.{First};
 ghost use Rattle.hierarchy.specs.Views.{ScopeBy};
 ghost use Rattle.sets.specs.Sets.{◌is_in◌, ◌are_in◌};
-ghost use Rattle.board.specs.Answers.{answer};
+ghost use Rattle.board.specs.Answers.{number_of, answer};
 ghost use Rattle.refusals.specs.Refusals.{LowestOut, InScope, conditions, Offends, Names, by_scope};
 ghost use Rattle.refusals.specs.Trusting.{BlamesBy};
 
@@ -12,13 +12,21 @@ use board::Code;
 use board::answers::{Cause, Refusal};
 use hierarchy::working::Kept;
 use scopes::{bars, scope};
-use sets::{lowest, minus, single, without};
+use sets::{lowest, minus, single, within, without};
 
 // A role that offends, and whether strict scope is asked of it.
 #[derive(Clone, Copy)]
 struct Offender {
     role: usize,
     strict: bool,
+}
+
+// Not 6: all are in the actor's scope that must be, `all` being that.
+fn within_scope(all: u64, f: &Formed) -> bool
+    ensures { (result ≡ true) ↔ InScope (λ a x. x is_in all) f.now.command }
+{
+    let own = without(all, f.command.actor as usize);
+    within(f.in_scope(), all) && within(f.in_strict(), own)
 }
 
 // The lowest of those that is not within, if any; the same is asked of all of them, and `strict` goes on to whoever offends.
@@ -49,21 +57,31 @@ fn offending(all: u64, f: &Formed) -> Option<Offender>
     }
 }
 
-// The refusal by scope, with whom it names.
-pub(crate) fn refused_by_scope(kept: &Kept, f: &Formed) -> Result<(), Refusal>
-    ensures { First (by_scope (ScopeBy kept.now.derives kept.now.derivers) f.now.command) (answer result).number × Names (BlamesBy kept.now.derives kept.now.derivers f.now.command) (answer result) }
+// 6: who offends first, and why. `all` is the actor's scope.
+fn blame(kept: &Kept, all: u64, f: &Formed) -> Refusal
+    requires { ((x : ℕ) → (x is_in all) ↔ ScopeBy kept.now.derives kept.now.derivers f.now.command.actor x) × (InScope (λ a x. x is_in all) f.now.command → ⊥) }
+    ensures { (number_of result ≡ 6) × BlamesBy kept.now.derives kept.now.derivers f.now.command (answer {A = Unit {0}} (Err result)) }
 {
     let actor = f.command.actor as usize;
-    let Some(o) = offending(scope(kept, actor), f) else {
-        return Ok(());
-    };
+    let o = offending(all, f).unwrap();
     let cause = if o.strict && o.role == actor {
         Cause::Itself
     } else {
         Cause::from(bars(kept, actor, o.role).unwrap())
     };
-    Err(Refusal::OutOfScope {
+    Refusal::OutOfScope {
         who: o.role as u8,
         cause,
-    })
+    }
+}
+
+// The refusal by scope, with whom it names: who offends is looked for only where somebody does.
+pub(crate) fn refused_by_scope(kept: &Kept, f: &Formed) -> Result<(), Refusal>
+    ensures { First (by_scope (ScopeBy kept.now.derives kept.now.derivers) f.now.command) (answer result).number × Names (BlamesBy kept.now.derives kept.now.derivers f.now.command) (answer result) }
+{
+    let all = scope(kept, f.command.actor as usize);
+    if within_scope(all, f) {
+        return Ok(());
+    }
+    Err(blame(kept, all, f))
 }

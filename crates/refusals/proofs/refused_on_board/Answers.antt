@@ -1,28 +1,32 @@
+use mathlib.Core.Path.{refl, subst}
+use Rattle.std.proofs.lemmas.Result.{err_from_is_err_and}
+use Rattle.hierarchy.specs.First.{First}
+use Rattle.hierarchy.specs.Views.{ScopeBy}
+use Rattle.board.specs.Answers.{answer}
+use Rattle.board.specs.declared.Command.{Command}
 use Rattle.board.proofs.Looking.{holds, fails}
-use Rattle.refusals.proofs.Trying.{row_2, row_3, row_4, row_5, row_13, row_6}
+use Rattle.refusals.specs.Entitled.{Entitled}
+use Rattle.refusals.specs.Refusals.{Names, by_scope}
+use Rattle.refusals.specs.Trusting.{DerivesBy, BlamesBy}
+use Rattle.refusals.proofs.Down.{down_refused, down_unentitled, down_scope}
 use Rattle.refusals.proofs.refused_on_board.Goals as goal
 
-pub returns-in_default : goal.returns-in_default
-returns-in_default c = row_2 c.args.b.now c.args.c c.in_default.ensures
-
-pub returns-then-missing : goal.returns-then-missing
-returns-then-missing c = row_3 c.args.b.now c.in-Some.ensures c.in-Some.f.in_range (holds c.missing.ensures c.if-missing.true)
-
-pub returns-then-standing : goal.returns-then-standing
-returns-then-standing c =
-    row_4 c.args.b.now c.in-Some.ensures c.in-Some.f.in_range (fails c.missing.ensures c.if-missing.false) (holds c.standing.ensures c.if-standing.true)
-
-pub returns-then-lacking : goal.returns-then-lacking
-returns-then-lacking c =
-    row_5 c.args.b.now c.in-Some.ensures c.in-Some.f.in_range (fails c.missing.ensures c.if-missing.false) (fails c.standing.ensures c.if-standing.false)
-    (holds c.lacking.ensures c.if-lacking.true)
+pub returns-in_err-f : goal.returns-in_err-f
+returns-in_err-f c =
+    let p = err_from_is_err_and c.from_residual.result c.from_residual.ensures.1 in
+    rw (p.1, p.2) (down_refused _ _ _ _ _ _ _ c.in_err-f.ensures.0)
 
 pub returns-then-not-entitled : goal.returns-then-not-entitled
 returns-then-not-entitled c =
-    row_13 c.args.b.now c.in-Some.ensures c.in-Some.f.in_range (fails c.missing.ensures c.if-missing.false) (fails c.standing.ensures c.if-standing.false)
-    (fails c.lacking.ensures c.if-lacking.false) (fails c.entitled.ensures c.if-not-entitled.true)
+    let b = c.args.b.now in
+    down_unentitled _ _ _ _ _ _ 0 refl c.in_ok-f.ensures.0
+    (subst (λ (k : Command). Entitled (DerivesBy b.kept.derives) b.rights k → ⊥) c.in_ok-f.ensures.1 (fails c.entitled.ensures c.if-not-entitled.true)) refl
 
 pub returns : goal.returns
 returns c =
-    row_6 c.args.b.now c.in-Some.ensures c.in-Some.f.in_range (fails c.missing.ensures c.if-missing.false) (fails c.standing.ensures c.if-standing.false)
-    (fails c.lacking.ensures c.if-lacking.false) (holds c.entitled.ensures c.if-not-entitled.false) c.refused_by_scope.ensures
+    let b = c.args.b.now in
+    let d = b.kept.derives in
+    let u = b.kept.derivers in
+    down_scope _ _ _ _ _ _ 0 refl c.in_ok-f.ensures.0
+    (subst (Entitled (DerivesBy d) b.rights) c.in_ok-f.ensures.1 (holds c.entitled.ensures c.if-not-entitled.false))
+    (subst (λ (k : Command). First (by_scope (ScopeBy d u) k) (answer c.refused_by_scope.result).number × Names (BlamesBy d u k) (answer c.refused_by_scope.result)) c.in_ok-f.ensures.1 c.refused_by_scope.ensures)
