@@ -1,4 +1,6 @@
 // The names beside the board's: its lock, and the folder that both stand in.
+ghost use Rattle.boardchange.specs.Paths.{FolderOf};
+
 use arrayvec::ArrayString;
 use std::fmt::Write;
 use std::{fmt, fs};
@@ -23,8 +25,10 @@ pub(crate) fn is_lock(name: &str) -> bool {
     name.ends_with(".lock")
 }
 
-// The folder of a name, with the '/' that ends it.
-pub(crate) fn folder(name: &str) -> &str {
+// The folder of a name, with the '/' that ends it; '.' where it names none.
+pub(crate) fn folder(name: &str) -> &str
+    ensures { FolderOf name.now result.now }
+{
     match name.rfind('/') {
         Some(at) => &name[..at + 1],
         None => ".",

@@ -154,7 +154,7 @@ unfolding rest_of
 look_start s line k t z e = record { text = t; sep = e; same = rw z; begins = rw z }
 
 module _ {line : Bor (List ℕ)} {s : Pieces} {k left : ℕ} (l : Looking line k left s) where
-  look_over : length s.text.now < s.from → WordOf line.now line.ref_ptr k [] line.ref_ptr
+  pub look_over : length s.text.now < s.from → WordOf line.now line.ref_ptr k [] line.ref_ptr
   unfolding filled beginnings
   look_over h =
       let over : length line.now < s.from = rw l.text at h in
@@ -165,7 +165,7 @@ module _ {line : Bor (List ℕ)} {s : Pieces} {k left : ℕ} (l : Looking line k
     cut : rest_of 32 line.now s.from ≡ part.now ∷ rest_of 32 line.now t.from
     cut = rw (l.text, l.sep) at g.first
 
-    look_none : length part.now ≡ 0 → Looking line k left t
+    pub look_none : length part.now ≡ 0 → Looking line k left t
     look_none z = record {
       text = g.same_text ∙ l.text;
       sep = g.same_sep ∙ l.sep;
@@ -176,12 +176,12 @@ module _ {line : Bor (List ℕ)} {s : Pieces} {k left : ℕ} (l : Looking line k
         next : s.from + 1 ≡ t.from
         next = omega (arith, g.behind)
 
-    look_here : (length part.now ≡ 0 → ⊥) → left ≡ 0 → WordOf line.now line.ref_ptr k part.now part.ref_ptr
+    pub look_here : (length part.now ≡ 0 → ⊥) → left ≡ 0 → WordOf line.now line.ref_ptr k part.now part.ref_ptr
     look_here h z =
         let start : s.from ≡ word_start line.now k = rw (cut, begins_some s.from part.now (rest_of 32 line.now t.from) h, z) at l.begins in
         (rw (cut, filled_some part.now (rest_of 32 line.now t.from) h, z) at l.same, rw l.text at g.block, rw (l.text, start) at g.begins)
 
-    look_past : (length part.now ≡ 0 → ⊥) → (left ≡ 0 → ⊥) → Looking line k (left - 1) t
+    pub look_past : (length part.now ≡ 0 → ⊥) → (left ≡ 0 → ⊥) → Looking line k (left - 1) t
     look_past h z = record {
       text = g.same_text ∙ l.text;
       sep = g.same_sep ∙ l.sep;
@@ -214,10 +214,10 @@ module _ {F : Type 0} {g : Mut F (Bor (Bor (List ℕ)) × Unit {0}) Bool}
       rw fewer at (passed (left - 1) u t ps more (omega arith) past)
 
   -- the word there, or none
-  pub word_found : (s u : Filter Pieces F) (r : Option (Bor (List ℕ))) (none : Bor (List ℕ)) → SkipsThenYields (filter_steps Cut g) s k r u → Looking line k k (filter_source s)
+  pub word_found : {n : ℕ} (s u : Filter Pieces F) (r : Option (Bor (List ℕ))) (none : Bor (List ℕ)) → SkipsThenYields (filter_steps Cut g) s n r u → n ≡ k → Looking line k k (filter_source s)
       → none.now ≡ [] → none.ref_ptr.0 ≡ line.ref_ptr.0 → none.ref_ptr.1 ≡ line.ref_ptr.1 → WordOf line.now line.ref_ptr k (unwrap_or r none).now (unwrap_or r none).ref_ptr
-  word_found s u (Some p) none (ps, (t, before, (xs, f, (v, over, gives), calls, called)), many) l e b a =
+  word_found s u (Some p) none (ps, (t, before, (xs, f, (v, over, gives), calls, called)), many) same l e b a =
       look_here (skipped (filter_source t) v xs (filter_callee t) f over calls (passed k s t ps before (omega (arith, many)) l)) gives
       (eqb-false _ _ (asks f p true (filter_callee u) called)) (omega (arith, many))
-  word_found s u None none (ps, (t, before, (xs, f, (v, over, end), calls, called)), many) l e b a =
-      rw (e, b, a) (look_over (skipped (filter_source t) v xs (filter_callee t) f over calls (passed k s t ps before many l)) end)
+  word_found s u None none (ps, (t, before, (xs, f, (v, over, end), calls, called)), many) same l e b a =
+      rw (e, b, a) (look_over (skipped (filter_source t) v xs (filter_callee t) f over calls (passed k s t ps before (omega (arith, many)) l)) end.0)

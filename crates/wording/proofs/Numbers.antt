@@ -20,15 +20,15 @@ grown_all v (b ∷ rest) = option_and_then (λ n. grown_all n rest) (grown v b)
 
 -- ---- one byte more
 
-grown_no_digit : (v b : ℕ) → digit? b ≡ false → grown v b ≡ None
+pub grown_no_digit : (v b : ℕ) → digit? b ≡ false → grown v b ≡ None
 unfolding grown
 grown_no_digit v b e = rw e
 
-grown_high : (v b : ℕ) → 63 < v * 10 + (b - 48) → grown v b ≡ None
+pub grown_high : (v b : ℕ) → 63 < v * 10 + (b - 48) → grown v b ≡ None
 unfolding grown
 grown_high v b h = rw (lt-leb (v * 10 + (b - 48)) 63 h, and-false (digit? b))
 
-grown_low : (v b : ℕ) → digit? b ≡ true → v * 10 + (b - 48) ≤ 63 → grown v b ≡ Some (v * 10 + (b - 48))
+pub grown_low : (v b : ℕ) → digit? b ≡ true → v * 10 + (b - 48) ≤ 63 → grown v b ≡ Some (v * 10 + (b - 48))
 unfolding grown
 grown_low v b e h = rw (e, le-leb (v * 10 + (b - 48)) 63 h)
 

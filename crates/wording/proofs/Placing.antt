@@ -1,6 +1,7 @@
 -- The place of a text among names. Assumes nothing.
-use mathlib.Core.Path.{◌≡◌, refl, ap, ◌∙◌}
-use mathlib.Core.Bool.{Bool, true, false, ◌&&◌}
+use mathlib.Core.Path.{◌≡◌, refl, ap, ap₂, ◌∙◌}
+use mathlib.Core.Bool.{Bool, true, false, ◌&&◌, false≢true}
+use mathlib.Core.Logic.{◌↔◌}
 use mathlib.Core.List.{List, [], ◌∷◌}
 use Rattle.std.specs.Prelude.{Option, Some, None, option_map, cond, IfSome}
 use Rattle.std.specs.Borrow.{Bor}
@@ -9,18 +10,30 @@ use native.Mathlib.Omega.{arith}
 use lib.Dec.{eqb}
 use lib.Pointwise.{pointwise}
 use lib.ListN.{length}
+use borrow.Author.Tests.{eqb-true, eq-eqb}
+use Rattle.sets.proofs.Bools.{and_left, and_right, and_both}
 use Rattle.wording.specs.Texts.{alike?, pieces, rest_of, Given, bytes, separates, longer}
 use Rattle.wording.specs.Names.{place_in}
 use Rattle.wording.specs.declared.pieces.Pieces.{Pieces}
 use Rattle.wording.proofs.Cutting.{rest_over}
 
--- what `==` of two texts gives
-pub alike_is : (a b : List ℕ) → pointwise eqb a b ≡ alike? a b
+pub alike_is : (a b : List ℕ) → (alike? a b ≡ true) ↔ (a ≡ b)
 unfolding alike?
-alike_is [] [] = refl
-alike_is [] (y ∷ ys) = refl
-alike_is (x ∷ xs) [] = refl
-alike_is (x ∷ xs) (y ∷ ys) = ap (λ (q : Bool). eqb x y && q) (alike_is xs ys)
+alike_is [] [] = (λ _. refl, λ _. refl)
+alike_is [] (y ∷ ys) = (λ e. absurd (false≢true e), λ e. cc)
+alike_is (x ∷ xs) [] = (λ e. absurd (false≢true e), λ e. cc)
+alike_is (x ∷ xs) (y ∷ ys) = (
+  λ e. ap₂ ◌∷◌ (eqb-true x y (and_left (eqb x y) (alike? xs ys) e)) ((alike_is xs ys).0 (and_right (eqb x y) (alike? xs ys) e)),
+  λ e. and_both (eqb x y) (alike? xs ys) (eq-eqb x y (cc)) ((alike_is xs ys).1 (cc)),
+)
+
+-- what `==` of two texts gives
+pub alike_pointwise : (a b : List ℕ) → pointwise eqb a b ≡ alike? a b
+unfolding alike?
+alike_pointwise [] [] = refl
+alike_pointwise [] (y ∷ ys) = refl
+alike_pointwise (x ∷ xs) [] = refl
+alike_pointwise (x ∷ xs) (y ∷ ys) = ap (λ (q : Bool). eqb x y && q) (alike_pointwise xs ys)
 
 -- k names were passed, and the text is none of them; those from s on are left
 pub record Counting (text names : List ℕ) (k : ℕ) (s : Pieces) : Type 0 where

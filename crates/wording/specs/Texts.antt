@@ -45,7 +45,7 @@ rest_of sep text zero = pieces sep text
 rest_of sep [] (suc from) = []
 rest_of sep (b ∷ rest) (suc from) = rest_of sep rest from
 
--- One turn of a loop over pieces: of those from s on the first is given, as a part of the text, and t goes on behind it; or none is left.
+-- One turn of a loop over pieces: of those from s on the first is given, as a part of the text, and t goes on behind it; or none is left, and t is s.
 pub record Given (s : Pieces) (part : Bor (List ℕ)) (t : Pieces) : Type 0 where
   pub same_text : t.text ≡ s.text
   pub same_sep : t.sep ≡ s.sep
@@ -57,7 +57,7 @@ pub record Given (s : Pieces) (part : Bor (List ℕ)) (t : Pieces) : Type 0 wher
 
 abbrev pub Cut : Pieces → Option (Bor (List ℕ)) → Pieces → Type 0
 Cut s (Some part) t = Given s part t
-Cut s None t = length s.text.now < s.from
+Cut s None t = (length s.text.now < s.from) × (t ≡ s)
 
 -- the pieces that have a byte
 unfoldable pub filled : List (List ℕ) → List (List ℕ)

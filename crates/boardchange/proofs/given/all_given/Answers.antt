@@ -10,4 +10,4 @@ pub loop-k-preserved : goal.loop-k-preserved
 loop-k-preserved c = let step = c.in-Some.ensures.steps in rw step.2 (next c.loop-k.invariant step.0 c.line_turn-done.ensures)
 
 pub returns : goal.returns
-returns c = finish c.loop-k.invariant c.in-None.ensures.steps.0
+returns c = finish c.loop-k.invariant c.in-None.ensures.steps.0.0

@@ -13,4 +13,4 @@ loop-piece-preserved g c = list_next c.loop-piece.invariant c.in-Some.ensures.st
     c.with-set.result (omega (arith, c.with-set.type_inv)) c.with-set.ensures
 
 pub returns : goal.returns
-returns g c = list_over c.loop-piece.invariant c.in-None.ensures.steps
+returns g c = list_over c.loop-piece.invariant c.in-None.ensures.steps.0
