@@ -1,7 +1,7 @@
 -- The answers of the questions on a file, and of the stretch, from those on its board. Assumes nothing.
 use mathlib.Core.Path.{◌≡◌, refl, ap, ap₂, ◌∙◌}
 use mathlib.Core.Logic.Iff
-use mathlib.Core.Logic.{◌⊎◌, inl, inr}
+use mathlib.Core.Logic.{◌⊎◌, inl, inr, ◌≢◌}
 use mathlib.Core.List.{List, [], ◌∷◌}
 use Prim.Native.Nat.{ℕ, ◌+◌, ◌≤◌, ◌<◌}
 use native.Mathlib.Omega.{arith}
@@ -35,9 +35,12 @@ use Rattle.boardfile.proofs.OneBoard.{named_by}
 abbrev own : List ℕ → ℕ → ℕ → List (ℕ × Type 0)
 own f x y = (2, (63 < x) ⊎ (63 < y)) ∷ (3, TablesIn f (λ t. (x is_in t.live → ⊥) ⊎ (y is_in t.live → ⊥))) ∷ []
 
+pub asked_refused : (f : List ℕ) (x y n : ℕ) → First (refusals f) n → n ≢ 0 → First (asked_refusals f x y) n
+asked_refused f x y n h z = first_refused (refusals f) (own f x y) n z h
+
 -- of a file that is refused nothing is asked
 pub unopened : {f : List ℕ} {b : Board} {A : Type 0} {Right : A → Type 0} {none : A} (x y : ℕ) (r : Refusal) → Opening f (number_of r) b → Answered (asked_refusals f x y) Right none (number_of r) none
-unopened {f} x y r o = answer_refused (first_refused (refusals f) (own f x y) (number_of r) (number_of_some r) o.numbered) (number_of_some r)
+unopened {f} x y r o = answer_refused (asked_refused f x y (number_of r) o.numbered (number_of_some r)) (number_of_some r)
 
 -- the same where `?` hands the refusal on; `value` is what the question says, by its answer
 pub handed_on : {f : List ℕ} {b : Board} {A V : Type 0} {Right : V → Type 0} {r : Result A Refusal} {e : Refusal} (x y : ℕ) (value : Result A Refusal → V)

@@ -2,7 +2,7 @@
 use mathlib.Core.Path.{◌≡◌, refl, sym, ap, ap₂, ◌∙◌, subst}
 use mathlib.Core.Bool.{Bool, true, false, cond, not}
 use mathlib.Core.Logic.Iff
-use mathlib.Core.Logic.{inl, inr, ⊎_elim, ◌≢◌}
+use mathlib.Core.Logic.{◌⊎◌, inl, inr, ⊎_elim, ◌≢◌}
 use mathlib.Core.List.{List, [], ◌∷◌, ◌++◌, map, append_assoc}
 use Prim.Native.Nat.{ℕ, ◌+◌, ◌*◌, ◌/◌, ◌%◌, ◌^◌, ◌≤◌, ◌<◌}
 use native.Mathlib.Omega.{arith}
@@ -11,11 +11,12 @@ use lib.Seq.{length-take-le, drop-drop}
 use Rattle.sets.specs.Sets.{bit, ◌is_in◌}
 use Rattle.sets.proofs.Bools.{lt_or_ge}
 use Rattle.sets.proofs.Digits.{bit_out}
-use Rattle.std.specs.Prelude.{Result, Ok, Err}
+use Rattle.std.specs.Prelude.{Result, Ok, Err, IsErrAnd, MatchResult}
+use Rattle.std.proofs.lemmas.Result.{err_from_is_err_and}
 use Rattle.hierarchy.specs.declared.working.Kept.{Kept}
 use Rattle.hierarchy.specs.declared.working.Fault.{Fault}
 use Rattle.hierarchy.specs.declared.working.Fault.TheVariants as fault
-use Rattle.board.specs.Answers.{number_of, faulted}
+use Rattle.board.specs.Answers.{number, number_of, faulted}
 use Rattle.board.specs.declared.answers.Refusal.{Refusal}
 use Rattle.board.specs.declared.answers.Refusal.TheVariants as refusal
 use Rattle.hierarchy.specs.Tables.{Tables, row, Shaped, kind_of, kind}
@@ -26,6 +27,7 @@ use Rattle.hierarchy.proofs.FirstLaws.{pass}
 use Rattle.board.specs.Rights.{rights_of, RightsFit}
 use Rattle.board.specs.Boards.{founding_board, SoundBoard}
 use Rattle.board.specs.declared.Board.{Board}
+use Rattle.board.proofs.Answering.{number_of_some}
 use Rattle.board.proofs.Rules.{first_alike}
 use Rattle.board.proofs.Looking.{disordered_loops, worked_sound, worked_right}
 use Rattle.frames.specs.Frames.{BadFrame}
@@ -157,6 +159,12 @@ faulted_some : (e : Fault) → number_of (faulted e) ≢ 0
 faulted_some fault.Loops z = omega (arith, z)
 faulted_some fault.Unmanaged z = omega (arith, z)
 
+-- a fault is handed on as its refusal, where that is what is made of it
+as_refusal : {A : Type 0} {Made : Fault → Refusal → Type 0} (found : Result A Fault) (r : Result A Refusal) → MatchResult found (λ v. r ≡ Ok v) (λ e. IsErrAnd r (Made e))
+    → ((e : Fault) (d : Refusal) → Made e d → d ≡ faulted e) → ((e : Fault) × (found ≡ Err e) × (r ≡ Err (faulted e))) ⊎ ((v : A) × (found ≡ Ok v) × (r ≡ Ok v))
+as_refusal (Ok v) r h made = inr (v, refl, h)
+as_refusal (Err e) r h made = let p = err_from_is_err_and r h in inl (e, refl, p.1 ∙ ap Err (made e p.0 p.2))
+
 -- what a board's own trouble says of the file
 module _ {f : List ℕ} {t : Tables} {rights : List ℕ} (number : ℕ) (frame : BadFrame f → ⊥) (record' : BadRecord f → ⊥) (is : IsFile f t rights)
     (own : First ((7, Loops t) ∷ (9, (Managed t → ⊥)) ∷ []) number) where
@@ -195,6 +203,11 @@ module _ {f : List ℕ} {n m live : ℕ} {w : Bool} {t : Tables} (rights : List 
     done = λ _. (is, record { sound = worked_sound worked is.shaped roles.root (joined roles edges.1) z; right = worked_right worked z; rightful = is.rightful });
   }
 
+  -- either, by the result that the reader gives
+  pub opened_or_not : {Made : Fault → Refusal → Type 0} (r : Result A Refusal) → MatchResult found (λ v. r ≡ Ok v) (λ e. IsErrAnd r (Made e)) → ((e : Fault) (d : Refusal) → Made e d → d ≡ faulted e)
+      → Opening f (number r) (record { tables = t; kept = k; rights = rights })
+  opened_or_not r h made = ⊎_elim (λ p. rw p.2 (opened_not _ p.1 refl)) (λ p. rw p.2 (opened p.1)) (as_refusal found r h made)
+
 -- ---- what a file that was opened says to the rest
 
 module _ {f : List ℕ} {number : ℕ} {b : Board} (o : Opening f number b) where
@@ -203,6 +216,9 @@ module _ {f : List ℕ} {number : ℕ} {b : Board} (o : Opening f number b) wher
 
   pub into_refused : (entry : Board) → number ≢ 0 → ReadInto f entry entry number
   into_refused entry z = record { numbered = o.numbered; done = λ e. absurd (z e); refused = λ _. refl }
+
+pub read_not : {f : List ℕ} {b : Board} (r : Refusal) → Opening f (number_of r) b → ReadAnswer f (number_of r) founding_board
+read_not r o = read_refused o (number_of_some r)
 
 module _ {f : List ℕ} {b : Board} (o : Opening f 0 b) where
   pub sound : SoundBoard b

@@ -35,8 +35,10 @@ pub(crate) fn holdings(f: &Listed) -> Result<[u8; 64], Refusal>
         return Ok(rights);
     }
     let rights = held(f)?;
-    if founding(&rights) {
-        return Err(Refusal::BadRecord);
+    let needed = !founding(&rights);
+    if needed {
+        Ok(rights)
+    } else {
+        Err(Refusal::BadRecord)
     }
-    Ok(rights)
 }

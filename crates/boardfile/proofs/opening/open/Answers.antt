@@ -1,5 +1,6 @@
+use borrow.Author.Rules.{rules}
 use Rattle.std.proofs.lemmas.Result.{err_from_is_err_and}
-use Rattle.boardfile.proofs.Readings.{opened_as, refused_frame, refused_record, opened_not, opened}
+use Rattle.boardfile.proofs.Readings.{opened_as, refused_frame, refused_record, opened_or_not}
 use Rattle.boardfile.proofs.opening.open.Goals as goal
 
 pub returns-in_err-layout : goal.returns-in_err-layout
@@ -24,13 +25,7 @@ returns-in_err-b c =
     let f = c.in_ok-f.f in
     rw (p.1, p.2) (opened_as c.in_ok-f.ensures (refused_record _ f.framed.faultless c.in_err-b.ensures))
 
-pub returns-in_err-work_out : goal.returns-in_err-work_out
-returns-in_err-work_out c =
-    let p = err_from_is_err_and c.from_residual-in_err-work_out.result c.from_residual-in_err-work_out.ensures.1 in
-    let f = c.in_ok-f.f in
-    rw p.1 (opened_as c.in_ok-f.ensures (opened_not _ _ _ f.framed f.listed c.in_ok-edges.ensures c.in_ok-b.ensures c.work_out.ensures _ c.in_err-work_out.was p.2))
-
 pub returns : goal.returns
 returns c =
     let f = c.in_ok-f.f in
-    opened_as c.in_ok-f.ensures (opened _ _ _ f.framed f.listed c.in_ok-edges.ensures c.in_ok-b.ensures c.work_out.ensures c.in_ok-work_out.was)
+    opened_as c.in_ok-f.ensures (opened_or_not _ _ _ f.framed f.listed c.in_ok-edges.ensures c.in_ok-b.ensures c.work_out.ensures _ c.map_err.ensures.cases (λ e d h. search rules))
