@@ -5,7 +5,8 @@ ghost use Rattle.board.specs.Answers.{number, value_or};
 ghost use Rattle.questions.specs.Scoped.{said, count, cause, way};
 ghost use Rattle.boardfile.specs.Answers.{refusals, DerivesOnFile, ScopeOnFile, ManagerOnFile, StepsOnFile};
 
-use crate::opening::{ROOM, open};
+use crate::opening::open;
+use board::Board;
 use board::answers::Refusal;
 use questions::{Scoped, derives_trusting, line_manager_trusting, scope_trusting, steps_trusting};
 
@@ -13,15 +14,14 @@ use questions::{Scoped, derives_trusting, line_manager_trusting, scope_trusting,
 pub fn check(file: &[u8]) -> Result<(), Refusal>
     ensures { First (refusals file.now) (number result) }
 {
-    let mut read = ROOM;
-    open(file, &mut read)
+    open(file, &mut Board::founding())
 }
 
 // Does x derive y.
 pub fn derives(file: &[u8], x: u32, y: u32) -> Result<bool, Refusal>
     ensures { DerivesOnFile file.now x y (number result) (value_or false result) }
 {
-    let mut b = ROOM;
+    let mut b = Board::founding();
     open(file, &mut b)?;
     derives_trusting(&b, x, y)
 }
@@ -30,7 +30,7 @@ pub fn derives(file: &[u8], x: u32, y: u32) -> Result<bool, Refusal>
 pub fn scope(file: &[u8], a: u32, r: u32) -> Result<Scoped, Refusal>
     ensures { ScopeOnFile file.now a r (number result) (said result) (count result) (cause result) (way result) }
 {
-    let mut b = ROOM;
+    let mut b = Board::founding();
     open(file, &mut b)?;
     scope_trusting(&b, a, r)
 }
@@ -39,7 +39,7 @@ pub fn scope(file: &[u8], a: u32, r: u32) -> Result<Scoped, Refusal>
 pub fn line_manager(file: &[u8], r: u32) -> Result<Option<u8>, Refusal>
     ensures { ManagerOnFile file.now r (number result) (value_or None result) }
 {
-    let mut b = ROOM;
+    let mut b = Board::founding();
     open(file, &mut b)?;
     line_manager_trusting(&b, r)
 }
@@ -48,7 +48,7 @@ pub fn line_manager(file: &[u8], r: u32) -> Result<Option<u8>, Refusal>
 pub fn steps(file: &[u8], r: u32) -> Result<usize, Refusal>
     ensures { StepsOnFile file.now r (number result) (value_or 0 result) }
 {
-    let mut b = ROOM;
+    let mut b = Board::founding();
     open(file, &mut b)?;
     steps_trusting(&b, r)
 }

@@ -1,9 +1,9 @@
 // A command on the board in a file: read, decided and written in one call.
 ghost use Rattle.boardfile.specs.Answers.{Commanded};
 
-use crate::opening::{ROOM, open};
-use board::Command;
+use crate::opening::open;
 use board::answers::Refusal;
+use board::{Board, Command};
 use commands::decide_trusting;
 use writer::put;
 
@@ -20,7 +20,7 @@ pub enum Rejected {
 pub fn command(file: &[u8], c: Command, out: &mut [u8]) -> Result<usize, Rejected>
     ensures { Commanded file.now c out.old out.new result }
 {
-    let mut b = ROOM;
+    let mut b = Board::founding();
     open(file, &mut b).map_err(Rejected::File)?;
     decide_trusting(&mut b, c).map_err(Rejected::Asked)?;
     put(&b.tables, &b.rights, out, 0).map_err(Rejected::Writing)

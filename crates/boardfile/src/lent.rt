@@ -2,7 +2,7 @@
 ghost use Rattle.board.specs.Answers.{number};
 ghost use Rattle.boardfile.specs.Answers.{ReadInto};
 
-use crate::opening::{ROOM, open};
+use crate::opening::open;
 use board::Board;
 use board::answers::Refusal;
 
@@ -10,7 +10,7 @@ use board::answers::Refusal;
 pub fn read_into(file: &[u8], b: &mut Board) -> Result<(), Refusal>
     ensures { ReadInto file.now b.old b.new (number result) }
 {
-    let mut new = ROOM;
+    let mut new = Board::founding();
     open(file, &mut new)?;
     *b = new;
     Ok(())

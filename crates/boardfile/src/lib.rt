@@ -19,14 +19,14 @@ ghost use Rattle.boardfile.specs.Answers.{ReadAnswer};
 
 use board::Board;
 use board::answers::Refusal;
-use opening::{ROOM, open};
+use opening::open;
 
 // The board of a file.
 #[tactic(auto, using(crate::proofs::Readings::read_not, crate::proofs::Readings::read_done))]
 pub fn read(file: &[u8]) -> Result<Board, Refusal>
     ensures { ReadAnswer file.now (number result) (value_or founding_board result) }
 {
-    let mut b = ROOM;
+    let mut b = Board::founding();
     open(file, &mut b)?;
     Ok(b)
 }

@@ -6,7 +6,8 @@ ghost use Rattle.boardfile.specs.Answers.{BoundsAnswer};
 ghost use Rattle.boardfile.specs.Stretches.{StretchOf, Stretched};
 ghost use Rattle.writer.specs.Parts.{nowhere};
 
-use crate::opening::{ROOM, open};
+use crate::opening::open;
+use board::Board;
 use board::answers::Refusal;
 use writer::records::{Span, place};
 
@@ -14,7 +15,7 @@ use writer::records::{Span, place};
 pub fn bounds(file: &[u8], role: u32) -> Result<Span, Refusal>
     ensures { let span = value_or nowhere result in BoundsAnswer file.now role (number result) span.start span.len }
 {
-    let mut b = ROOM;
+    let mut b = Board::founding();
     open(file, &mut b)?;
     place(&b.tables, role)
 }
