@@ -194,30 +194,42 @@ module _ {line : Bor (List ℕ)} {s : Pieces} {k left : ℕ} (l : Looking line k
 
 -- ---- the words that `filter` keeps of the pieces, where it asks of each whether it has a byte
 
-module _ {F : Type 0} {g : Mut F (Bor (Bor (List ℕ)) × Unit {0}) Bool}
+-- of any turn that gives the first piece left, or gives none behind the text's end
+module _ (C : Pieces → Option (Bor (List ℕ)) → Pieces → Type 0)
+    (cuts : (s : Pieces) (part : Bor (List ℕ)) (t : Pieces) → C s (Some part) t → Given s part t)
+    (ends : (s t : Pieces) → C s None t → length s.text.now < s.from)
+    {F : Type 0} {g : Mut F (Bor (Bor (List ℕ)) × Unit {0}) Bool}
     (asks : (f : F) (p : Bor (List ℕ)) (r : Bool) (f' : F) → CalledAt g f p r f' → eqb (length p.now) 0 ≡ not r)
     {line : Bor (List ℕ)} {k : ℕ} where
   -- the pieces that it passes over
   skipped : {left : ℕ} (s t : Pieces) (ps : List (Bor (List ℕ))) (f f' : F)
-      → Yields Cut s ps t → FoldsTo (λ f p f'. CalledAt g f p false f') f ps f' → Looking line k left s → Looking line k left t
+      → Yields C s ps t → FoldsTo (λ f p f'. CalledAt g f p false f') f ps f' → Looking line k left s → Looking line k left t
   skipped {left} s t [] f f' e h l = subst (λ (u : Pieces). Looking line k left u) e l
-  skipped s t (p ∷ ps) f f' (u, gives, more) (j, called, calls) l = skipped u t ps j f' more calls (look_none l gives (eqb-true _ _ (asks f p false j called)))
+  skipped s t (p ∷ ps) f f' (u, gives, more) (j, called, calls) l = skipped u t ps j f' more calls (look_none l (cuts _ _ _ gives) (eqb-true _ _ (asks f p false j called)))
 
   -- the words before the one that is looked for
   passed : (left : ℕ) (s t : Filter Pieces F) (ps : List (Bor (List ℕ)))
-      → Yields (filter_steps Cut g) s ps t → length ps ≤ left → Looking line k left (filter_source s) → Looking line k (left - length ps) (filter_source t)
+      → Yields (filter_steps C g) s ps t → length ps ≤ left → Looking line k left (filter_source s) → Looking line k (left - length ps) (filter_source t)
   passed left s t [] e h l = subst (λ (n : ℕ). Looking line k n (filter_source t)) (omega arith) (subst (λ u. Looking line k left (filter_source u)) e l)
   passed left s t (p ∷ ps) (u, (xs, f, (v, over, gives), calls, called), more) h l =
       let here : Looking line k left v = skipped (filter_source s) v xs (filter_callee s) f over calls l in
-      let past : Looking line k (left - 1) (filter_source u) = look_past here gives (eqb-false _ _ (asks f p true (filter_callee u) called)) (omega arith) in
+      let past : Looking line k (left - 1) (filter_source u) = look_past here (cuts _ _ _ gives) (eqb-false _ _ (asks f p true (filter_callee u) called)) (omega arith) in
       let fewer : left - 1 - length ps ≡ left - suc (length ps) = omega arith in
       rw fewer at (passed (left - 1) u t ps more (omega arith) past)
 
   -- the word there, or none
+  pub word_kept : {n : ℕ} (s u : Filter Pieces F) (r : Option (Bor (List ℕ))) (none : Bor (List ℕ)) → SkipsThenYields (filter_steps C g) s n r u → n ≡ k → Looking line k k (filter_source s)
+      → none.now ≡ [] → none.ref_ptr.0 ≡ line.ref_ptr.0 → none.ref_ptr.1 ≡ line.ref_ptr.1 → WordOf line.now line.ref_ptr k (unwrap_or r none).now (unwrap_or r none).ref_ptr
+  word_kept s u (Some p) none (ps, (t, before, (xs, f, (v, over, gives), calls, called)), many) same l e b a =
+      look_here (skipped (filter_source t) v xs (filter_callee t) f over calls (passed k s t ps before (omega (arith, many)) l)) (cuts _ _ _ gives)
+      (eqb-false _ _ (asks f p true (filter_callee u) called)) (omega (arith, many))
+  word_kept s u None none (ps, (t, before, (xs, f, (v, over, end), calls, called)), many) same l e b a =
+      rw (e, b, a) (look_over (skipped (filter_source t) v xs (filter_callee t) f over calls (passed k s t ps before (omega (arith, many)) l)) (ends _ _ end))
+
+-- and of the turn of a loop over pieces, which says more
+module _ {F : Type 0} {g : Mut F (Bor (Bor (List ℕ)) × Unit {0}) Bool}
+    (asks : (f : F) (p : Bor (List ℕ)) (r : Bool) (f' : F) → CalledAt g f p r f' → eqb (length p.now) 0 ≡ not r)
+    {line : Bor (List ℕ)} {k : ℕ} where
   pub word_found : {n : ℕ} (s u : Filter Pieces F) (r : Option (Bor (List ℕ))) (none : Bor (List ℕ)) → SkipsThenYields (filter_steps Cut g) s n r u → n ≡ k → Looking line k k (filter_source s)
       → none.now ≡ [] → none.ref_ptr.0 ≡ line.ref_ptr.0 → none.ref_ptr.1 ≡ line.ref_ptr.1 → WordOf line.now line.ref_ptr k (unwrap_or r none).now (unwrap_or r none).ref_ptr
-  word_found s u (Some p) none (ps, (t, before, (xs, f, (v, over, gives), calls, called)), many) same l e b a =
-      look_here (skipped (filter_source t) v xs (filter_callee t) f over calls (passed k s t ps before (omega (arith, many)) l)) gives
-      (eqb-false _ _ (asks f p true (filter_callee u) called)) (omega (arith, many))
-  word_found s u None none (ps, (t, before, (xs, f, (v, over, end), calls, called)), many) same l e b a =
-      rw (e, b, a) (look_over (skipped (filter_source t) v xs (filter_callee t) f over calls (passed k s t ps before (omega (arith, many)) l)) end.0)
+  word_found = word_kept Cut (λ s part t given. given) (λ s t over. over.0) asks
